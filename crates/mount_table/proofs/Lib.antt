@@ -1,0 +1,4 @@
+pub mod EachPart
+pub mod PartLemmas
+pub mod NameLemmas
+pub mod JoinLemmas

@@ -1,0 +1,12 @@
+use Rattle.std.proofs.Common.{lit<, rules}
+use Rattle.std.proofs.lemmas.Iterator.Splits.{YieldsList-from_str_split}
+use Rattle.std.proofs.lemmas.Iterator.{cases_from_any}
+use borrow.Author.Tests.{tests}
+use Rattle.mount_table.specs.Names.{parts, IsSealedName}
+use Rattle.mount_table.proofs.EachPart.{none_is}
+use Rattle.mount_table.proofs.path.has_no_sealed_part.Goals as goal
+
+pub returns : goal.returns
+returns c =
+    none_is IsSealedName c.any.result (parts c.args.text.now)
+    (cases_from_any _ _ c.any.result IsSealedName (λ x. ¬ IsSealedName x) c.any.ensures.ran (YieldsList-from_str_split 47 c.args.text.now (lit< tt) (cc) (cc) (cc)) (λ x q k. search (rules, tests)) (λ x q k. search (rules, tests)))

@@ -1,0 +1,158 @@
+//! The full name of a secret, as `mail/work/me`.
+
+ghost use Rattle.std.specs.Prelude.{◌≡◌, ◌≤◌, ◌&&◌, not, length, IsOk, IfOk, Err, MatchOption};
+ghost use Rattle.mount_table.specs.Names.{parts, IsName};
+ghost use Rattle.mount_table.specs.NameFaults.{Fails, IsGood, AreGood, IsFirstFault, IsFault, IsNameFault};
+ghost use Rattle.mount_table.specs.declared.name.BadName.{BadName};
+ghost use Rattle.mount_table.specs.declared.name.NameFault.TheVariants.{NoMemory};
+
+use crate::part::{is_hidden, is_sealed_name};
+use gopass_base::is_printable;
+use std::alloc::{AllocError, Global};
+use std::marker::Model;
+
+/// What is wrong with a name.
+#[derive(Clone, Copy, Debug, PartialEq, Eq)]
+pub enum NameKind {
+    /// A part has no byte.
+    Empty,
+    /// A part begins with a dot.
+    Dots,
+    /// A part has a byte below 32, or 127.
+    Control,
+    /// A part has more than 100 bytes.
+    LongPart,
+    /// The text has more than 400 bytes.
+    LongName,
+    /// There are more than 16 parts.
+    ManyParts,
+    /// A part that is not the last ends in `.gpg`.
+    FolderGpg,
+}
+
+/// Where a text stops being a name, in bytes from its start, and why.
+#[derive(Clone, Copy, Debug, PartialEq, Eq)]
+pub struct BadName {
+    pub at: usize,
+    pub kind: NameKind,
+}
+
+/// Why a text is not taken as a name.
+#[derive(Clone, Copy, Debug, PartialEq, Eq)]
+pub enum NameFault {
+    Bad(BadName),
+    NoMemory,
+}
+
+impl From<AllocError> for NameFault {
+    ghost from_gives = { λ _ e. e ≡ NoMemory };
+
+    fn from(_: AllocError) -> Self {
+        NameFault::NoMemory
+    }
+}
+
+/// The name of a secret, which contracts see as the bytes of its text.
+#[derive(Debug, Drop)]
+pub struct Name {
+    text: String,
+}
+
+impl Model for Name {
+    ghost use Rattle.std.specs.Prelude.{string_bytes};
+    ghost use Rattle.gopass_base.specs.Text.{Text};
+    ghost use Rattle.mount_table.specs.Names.{IsName};
+
+    ghost Value = { Text };
+
+    ghost view = { λ name. string_bytes name.text };
+
+    ghost invariant = { λ name. IsName (string_bytes name.text) };
+}
+
+impl Name {
+    /// The name that the text is: at most 400 bytes in 1 to 16 parts with `/` between them. Each
+    /// part has 1 to 100 bytes, none of them a control byte, and no dot in front; none but the last
+    /// ends in `.gpg`. A longer text is refused at its byte 400, and any other where the first part
+    /// that fails begins.
+    pub fn read(alloc: Global, text: &str) -> Result<Name, NameFault>
+        ensures name { IfOk result (λ name. name ≡ text.now) }
+        ensures good { IsOk result → IsName text.now }
+        ensures bad { (bad : BadName) → result ≡ Err (NameFault.Bad bad) → ¬ IsName text.now }
+        ensures fault { (bad : BadName) → result ≡ Err (NameFault.Bad bad) → IsNameFault text.now bad }
+    {
+        match fault_in(text, true) {
+            Some(bad) => Err(NameFault::Bad(bad)),
+            None => Ok(Name {
+                text: String::from_str(alloc, text)?,
+            }),
+        }
+    }
+
+    /// The bytes of the text.
+    pub fn text(&self) -> &str
+        ensures text { result.now ≡ self.now }
+        ensures good { IsName self.now }
+    {
+        &self.text
+    }
+}
+
+/// Why the text is no name: that of a secret, or else of a folder, whose last part too may not end
+/// in `.gpg`.
+fn fault_in(text: &str, is_secret: bool) -> Option<BadName>
+    ensures { MatchOption result ((length text.now ≤ 400) × AreGood is_secret (parts text.now)) (IsFault is_secret text.now) }
+{
+    if text.len() > 400 {
+        return Some(BadName {
+            at: 400,
+            kind: NameKind::LongName,
+        });
+    }
+    first_bad_part(text, is_secret)
+}
+
+/// The first part that fails.
+fn first_bad_part(text: &str, is_secret: bool) -> Option<BadName>
+    requires { length text.now ≤ 400 }
+    ensures { MatchOption result (AreGood is_secret (parts text.now)) (IsFirstFault is_secret (parts text.now)) }
+{
+    let mut number = 0;
+    let mut at = 0;
+    for part in text.split('/') {
+        let is_last = at + part.len() == text.len();
+        if let Some(kind) = fault_of_part(number, is_folder(is_secret, is_last), part) {
+            return Some(BadName { at, kind });
+        }
+        number += 1;
+        at += part.len() + 1;
+    }
+    None
+}
+
+fn is_folder(is_secret: bool, is_last: bool) -> bool
+    ensures { result ≡ not (is_secret && is_last) }
+{
+    !(is_secret && is_last)
+}
+
+/// What is wrong with the part of this number, counted from 0.
+fn fault_of_part(number: usize, is_folder: bool, part: &str) -> Option<NameKind>
+    ensures { MatchOption result (IsGood number is_folder part.now) (Fails number is_folder part.now) }
+{
+    if number >= 16 {
+        Some(NameKind::ManyParts)
+    } else if part.is_empty() {
+        Some(NameKind::Empty)
+    } else if is_hidden(part) {
+        Some(NameKind::Dots)
+    } else if !is_printable(part) {
+        Some(NameKind::Control)
+    } else if part.len() > 100 {
+        Some(NameKind::LongPart)
+    } else if is_folder && is_sealed_name(part) {
+        Some(NameKind::FolderGpg)
+    } else {
+        None
+    }
+}

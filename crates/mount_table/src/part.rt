@@ -1,0 +1,22 @@
+//! What names and paths ask of their parts.
+
+ghost use Rattle.std.specs.Prelude.{◌≡◌, ◌↔◌, ℕ, IsTrue, length};
+ghost use Rattle.mount_table.specs.Names.{parts, IsHidden, IsSealedName};
+
+pub(crate) fn is_hidden(part: &str) -> bool
+    ensures { IsTrue result ↔ IsHidden part.now }
+{
+    part.starts_with('.')
+}
+
+pub(crate) fn is_sealed_name(part: &str) -> bool
+    ensures { IsTrue result ↔ IsSealedName part.now }
+{
+    part.ends_with(".gpg")
+}
+
+pub(crate) fn part_count(text: &str) -> usize
+    ensures { result ≡ length (parts text.now) }
+{
+    text.split('/').count()
+}
