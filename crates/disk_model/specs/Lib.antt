@@ -1,0 +1,4 @@
+pub mod Files
+pub mod Disk
+pub mod Answers
+pub mod Entries

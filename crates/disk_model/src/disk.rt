@@ -1,0 +1,59 @@
+//! What a disk does.
+
+ghost use Rattle.std.specs.Prelude.{◌≡◌, ℕ, IfOk, Err};
+ghost use Rattle.gopass_base.specs.Faults.{HasCause};
+ghost use Rattle.disk_model.specs.Disk.{View, DiskMeaning, Rests};
+ghost use Rattle.disk_model.specs.Answers.{Reads, IsWithin};
+ghost use Rattle.disk_model.specs.declared.disk.DiskFault.TheVariants.{Failed as failed, NoMemory as no_memory};
+
+use gopass_base::Failed;
+use mount_table::FilePath;
+use std::alloc::{AllocError, AllocFailed};
+
+/// Why a disk does not do what it was asked.
+#[derive(Clone, Copy, Debug, PartialEq, Eq)]
+pub enum DiskFault {
+    /// The disk failed.
+    Failed,
+    NoMemory,
+}
+
+impl From<Failed> for DiskFault {
+    ghost from_gives = { λ _ e. e ≡ failed };
+
+    fn from(_: Failed) -> Self {
+        DiskFault::Failed
+    }
+}
+
+impl From<AllocError> for DiskFault {
+    ghost from_gives = { λ _ e. e ≡ no_memory };
+
+    fn from(_: AllocError) -> Self {
+        DiskFault::NoMemory
+    }
+}
+
+/// What a read finds.
+#[derive(Debug, Drop)]
+pub enum Got {
+    /// There is no such file.
+    Absent,
+    /// All the bytes of the file.
+    Bytes(Vec<u8>),
+    /// The file has more bytes than were asked for.
+    Long,
+}
+
+/// A disk of files, each under its path.
+pub trait Disk {
+    /// What the disk means. The clauses on content hold where it tells its content.
+    ghost meaning: { DiskMeaning Self };
+
+    /// The file under the path, where it has at most `max` bytes. It changes nothing.
+    fn read(&mut self, path: &FilePath, max: usize) -> Result<Got, DiskFault>
+        ensures rests { meaning.tells → Rests (meaning.view self.old) (meaning.view self.new) }
+        ensures got { IfOk result (λ got. meaning.tells → Reads ((meaning.view self.old).files path.now) max got) }
+        ensures bound { IfOk result (IsWithin max) }
+        ensures cause { HasCause (meaning.faults self.old) (meaning.faults self.new) (result ≡ Err DiskFault.Failed) };
+}

@@ -1,0 +1,65 @@
+//! Files in rising order of their paths.
+
+ghost use Rattle.std.specs.Prelude.{◌≡◌, ◌≢◌, ◌≤◌, ◌<◌, ℕ, List, length, slice_index_or, OnOk, OnErr, None, Some, MatchOption, IsTrue, ◌↔◌};
+ghost use Rattle.std.specs.Ordering.{nat_cmp};
+ghost use Rattle.std.specs.Cmp.Lexicographic.{slice_cmp};
+ghost use Rattle.std.specs.declared.cmp.Ordering.TheVariants.{Greater};
+ghost use Rattle.disk_model.specs.Entries.{entries_of, files_of, with_entry};
+
+use gopass_base::NoMemory;
+use mount_table::FilePath;
+
+/// How many of the first files lie before the path.
+fn place_of(files: &[(FilePath, Vec<u8>)], path: &FilePath) -> usize
+    ensures within { result ≤ length files.now }
+    ensures before { (k : ℕ) (d : _) → k < result → slice_cmp nat_cmp path.now (slice_index_or files.now k d).0 ≡ Greater }
+    ensures here { (d : _) → result < length files.now → slice_cmp nat_cmp path.now (slice_index_or files.now result d).0 ≢ Greater }
+{
+    for i in 0..files.len() {
+        if *path <= files[i].0 {
+            return i;
+        }
+    }
+    files.len()
+}
+
+/// Whether the file at the place has this path.
+fn is_at(files: &[(FilePath, Vec<u8>)], at: usize, path: &FilePath) -> bool
+    ensures { (d : _) → IsTrue result ↔ ((at < length files.now) × ((slice_index_or files.now at d).0 ≡ path.now)) }
+{
+    match files.get(at) {
+        Some(file) => file.0 == *path,
+        None => false,
+    }
+}
+
+/// Puts the file in its place, over one with the same path. Nothing changes where there is no memory.
+pub(crate) fn put_file(
+    files: &mut Vec<(FilePath, Vec<u8>)>,
+    path: FilePath,
+    bytes: Vec<u8>,
+) -> Result<(), NoMemory>
+    ensures put { OnOk result (entries_of files.new.items ≡ with_entry path bytes.items (entries_of files.old.items)) }
+    ensures same { OnErr result (files.new.items ≡ files.old.items) }
+{
+    let at = place_of(files, &path);
+    if is_at(files, at, &path) {
+        files[at] = (path, bytes);
+        return Ok(());
+    }
+    files.insert(at, (path, bytes))?;
+    Ok(())
+}
+
+/// The place of the file with this path, where there is one.
+pub(crate) fn find(files: &[(FilePath, Vec<u8>)], path: &FilePath) -> Option<usize>
+    ensures { MatchOption result (files_of (entries_of files.now) path.now ≡ None)
+        (λ i. (i < length files.now) × ((d : _) → files_of (entries_of files.now) path.now ≡ Some (slice_index_or files.now i d).1.items)) }
+{
+    for i in 0..files.len() {
+        if files[i].0 == *path {
+            return Some(i);
+        }
+    }
+    None
+}
