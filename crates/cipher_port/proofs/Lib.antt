@@ -1,0 +1,4 @@
+pub mod RecipientsLemmas
+pub mod LineLemmas
+pub mod StandinLemmas
+pub mod StandinAgain
