@@ -1,0 +1,84 @@
+//! A store in memory, and what a run on it leaves.
+
+ghost use Rattle.std.specs.Prelude.{◌≡◌, All, IfOk, vec_len};
+ghost use Rattle.cipher_port.specs.Tool.{Ring};
+
+use cipher_port::{Id, MemTool};
+use disk_model::MemDisk;
+use gopass_cli::{Ended, gopass};
+use io_ports::MemSink;
+use mount_table::{DirPath, FilePath};
+use std::alloc::Global;
+use std::test::Fail;
+
+/// A store whose root directory is `root`, one tool, and the numbers of the calls that fail.
+#[derive(Clone, Copy)]
+pub(crate) struct Store<'a> {
+    pub files: &'a [(&'a str, &'a [u8])],
+    pub held: &'a str,
+    pub disk_fails: &'a [u64],
+    pub tool_fails: &'a [u64],
+    pub out_fails: &'a [u64],
+}
+
+/// What a run left: its status, and the bytes of its two streams.
+#[derive(Debug, Drop)]
+pub(crate) struct Left {
+    pub status: u8,
+    pub out: Vec<u8>,
+    pub err: Vec<u8>,
+}
+
+fn disk(alloc: Global, store: &Store) -> Result<MemDisk, Fail> {
+    let mut files = Vec::new(alloc);
+    for (path, bytes) in store.files {
+        files.push((FilePath::read(alloc, path)?, bytes.to_vec(alloc)?))?;
+    }
+    let mut disk = MemDisk::new(alloc, files)?;
+    disk.fail_at(store.disk_fails.to_vec(alloc)?);
+    Ok(disk)
+}
+
+fn ids(alloc: Global, texts: &[&str]) -> Result<Vec<Id>, Fail> {
+    let mut ids = Vec::new(alloc);
+    for text in texts {
+        ids.push(Id::read(alloc, text)?)?;
+    }
+    Ok(ids)
+}
+
+fn tool(alloc: Global, store: &Store) -> Result<MemTool, Fail> {
+    let known = ids(alloc, &["alice", "bob", "carol"])?;
+    let held = ids(alloc, &[store.held])?;
+    Ok(MemTool::new(known, held, store.tool_fails.to_vec(alloc)?))
+}
+
+fn tools(alloc: Global, store: &Store) -> Result<Vec<MemTool>, Fail>
+    ensures one { IfOk result (λ tools. vec_len tools ≡ 1) }
+    ensures rings { IfOk result (λ tools. (ring : Ring) × All (λ tool. tool.ring ≡ ring) tools.items) }
+{
+    let mut tools = Vec::new(alloc);
+    tools.push(tool(alloc, store)?)?;
+    Ok(tools)
+}
+
+/// Runs the words on the store.
+pub(crate) fn run(alloc: Global, store: &Store, words: &[&str]) -> Result<Left, Fail> {
+    let mut texts = Vec::new(alloc);
+    for word in words {
+        texts.push(String::from_str(alloc, word)?)?;
+    }
+    let mut tools = tools(alloc, store)?;
+    let mut out = MemSink::new(alloc, 40_000, store.out_fails.to_vec(alloc)?)?;
+    let mut err = MemSink::new(alloc, 1_000, Vec::new(alloc))?;
+    let root = DirPath::read(alloc, "root")?;
+    let disk = disk(alloc, store)?;
+    let Ended { status, disk: _ } = gopass(
+        alloc, &texts, &root, disk, &mut tools, &mut out, &mut err,
+    );
+    Ok(Left {
+        status,
+        out: out.taken().to_vec(alloc)?,
+        err: err.taken().to_vec(alloc)?,
+    })
+}

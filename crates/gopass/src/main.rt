@@ -1,0 +1,53 @@
+//! The program: a store in memory as yet, with one secret, and its command line.
+#![tactic(auto)]
+
+mod store;
+mod stream;
+
+use gopass_cli::{Ended, gopass};
+use std::alloc::{AllocError, Global};
+use std::process::ExitCode;
+use std::{env, io};
+use store::{disk, root, tool};
+use stream::StdSink;
+
+/// The words behind the program's name.
+fn words(rt: &HostRuntime) -> io::Result<Vec<String>> {
+    let mut words = Vec::new(rt.alloc());
+    for word in env::args(rt)?.skip(1) {
+        words.push(word)?;
+    }
+    Ok(words)
+}
+
+/// Runs the words on the store, and answers the status.
+fn run(rt: &HostRuntime, words: &[String]) -> Result<u8, AllocError> {
+    let mut tools = Vec::new(rt.alloc());
+    tools.push(tool(rt.alloc())?)?;
+    let mut out = StdSink::new(rt.stdout());
+    let mut err = StdSink::new(rt.stderr());
+    let Ended { status, disk: _ } = gopass(
+        rt.alloc(),
+        words,
+        &root(rt.alloc())?,
+        disk(rt.alloc())?,
+        &mut tools,
+        &mut out,
+        &mut err,
+    );
+    Ok(status)
+}
+
+fn main(rt: HostRuntime) -> ExitCode {
+    let ran = match words(&rt) {
+        Ok(words) => run(&rt, &words),
+        Err(_) => Err(AllocError),
+    };
+    match ran {
+        Ok(status) => ExitCode::from(status),
+        Err(_) => {
+            let _ = eprintln!(rt; "gopass: out of memory");
+            ExitCode::from(14)
+        }
+    }
+}

@@ -1,0 +1,16 @@
+pub mod Words
+pub mod State
+pub mod Said
+pub mod Texts
+pub mod Opening
+pub mod Refusals
+pub mod Replies
+pub mod Printed
+pub mod Found
+pub mod Events
+pub mod Show
+pub mod Run
+pub mod Causes
+pub mod Told
+pub mod Shown
+pub mod Ran

@@ -1,0 +1,12 @@
+//! The command line of the store: words in, a status and bytes out.
+#![tactic(auto)]
+
+mod answers;
+mod printing;
+mod refusal;
+mod reply;
+mod run;
+mod showing;
+mod words;
+
+pub use run::{Ended, gopass};
