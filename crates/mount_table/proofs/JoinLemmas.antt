@@ -64,7 +64,7 @@ printable_byte : (b : ℕ) (more : Bool) → (plain_byte b && more) ≡ true →
 printable_byte b more e = grind (arith, nat_tests)
 
 -- a text whose bytes are known
-printable_text : (text : Text) → list_all plain_byte text ≡ true → All IsPrintable text
+pub printable_text : (text : Text) → list_all plain_byte text ≡ true → All IsPrintable text
 printable_text [] e = All-nil IsPrintable
 printable_text (b ∷ text) e = let both = printable_byte b (list_all plain_byte text) e in All-cons IsPrintable b text both.0 (printable_text text both.1)
 

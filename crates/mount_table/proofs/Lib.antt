@@ -2,3 +2,12 @@ pub mod EachPart
 pub mod PartLemmas
 pub mod NameLemmas
 pub mod JoinLemmas
+pub mod FolderLemmas
+pub mod FolderNames
+pub mod PrefixLemmas
+pub mod RestLemmas
+pub mod OrderLemmas
+pub mod TableLemmas
+pub mod MountLemmas
+pub mod CleanLemmas
+pub mod LineLemmas

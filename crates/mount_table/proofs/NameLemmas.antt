@@ -24,7 +24,7 @@ above_is k n lt = grind (arith, nat_tests)
 is_above : (k n : ℕ) → not (true && eqb (k + 1) n) ≡ true → k < n → k < n - 1
 is_above k n is lt = grind (arith, nat_tests)
 
-at_most : (n : ℕ) → (16 < n → 16 < 16) → n ≤ 16
+pub at_most : (n : ℕ) → (16 < n → 16 < 16) → n ≤ 16
 at_most n h = grind arith
 
 pub name_of : (text : List ℕ) → length text ≤ 400 → AreGood true (parts text) → IsName text

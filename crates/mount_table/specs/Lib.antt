@@ -1,3 +1,9 @@
 pub mod Names
 pub mod NameFaults
+pub mod Prefixes
+pub mod Folders
 pub mod Paths
+pub mod Mounts
+pub mod MountChanges
+pub mod Lines
+pub mod MountsText

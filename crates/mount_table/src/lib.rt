@@ -1,11 +1,18 @@
-//! Names of secrets, and paths of the disk.
+//! Names and folders of secrets, paths of the disk, and the mounts of a store.
 #![tactic(auto)]
 
+mod cut;
+mod folder;
+mod mounts;
+mod mounts_text;
 mod name;
 mod part;
 mod path;
 mod service;
 
+pub use folder::Folder;
+pub use mounts::{AddFault, Mounts, NotMounted, Place, Row};
+pub use mounts_text::MountsFault;
 pub use name::{BadName, Name, NameFault, NameKind};
 pub use path::{DirPath, FilePath, PathFault};
 pub use service::ServiceFile;

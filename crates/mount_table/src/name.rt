@@ -1,14 +1,17 @@
 //! The full name of a secret, as `mail/work/me`.
 
-ghost use Rattle.std.specs.Prelude.{◌≡◌, ◌≤◌, ◌&&◌, not, length, IsOk, IfOk, Err, MatchOption};
+ghost use Rattle.std.specs.Prelude.{◌≡◌, ◌≤◌, ◌&&◌, not, length, drop, IsOk, IfOk, Err, MatchOption};
 ghost use Rattle.mount_table.specs.Names.{parts, IsName};
+ghost use Rattle.mount_table.specs.Prefixes.{Holds, rest_start};
 ghost use Rattle.mount_table.specs.NameFaults.{Fails, IsGood, AreGood, IsFirstFault, IsFault, IsNameFault};
 ghost use Rattle.mount_table.specs.declared.name.BadName.{BadName};
 ghost use Rattle.mount_table.specs.declared.name.NameFault.TheVariants.{NoMemory};
 
+use crate::folder::Folder;
 use crate::part::{is_hidden, is_sealed_name};
-use gopass_base::is_printable;
+use gopass_base::{NoMemory, is_printable};
 use std::alloc::{AllocError, Global};
+use std::cmp::Ordering;
 use std::marker::Model;
 
 /// What is wrong with a name.
@@ -96,11 +99,88 @@ impl Name {
     {
         &self.text
     }
+
+    /// The name without the parts of a folder that holds it.
+    pub(crate) fn below(&self, alloc: Global, folder: &Folder) -> Result<Name, NoMemory>
+        requires { Holds folder.now self.now }
+        ensures { IfOk result (λ rest. rest ≡ drop (rest_start folder.now self.now) self.now) }
+    {
+        Ok(Name {
+            text: String::from_str(alloc, &self.text()[folder.start_below()..])?,
+        })
+    }
+
+    /// The same name once more.
+    pub fn copy(&self, alloc: Global) -> Result<Name, NoMemory>
+        ensures { IfOk result (λ copy. copy ≡ self.now) }
+    {
+        Ok(Name {
+            text: String::from_str(alloc, &self.text)?,
+        })
+    }
+}
+
+impl PartialEq for Name {
+    ghost use Rattle.std.specs.Prelude.{◌==◌};
+    ghost use Rattle.std.specs.Cmp.Lexicographic.{pointwise};
+    ghost use Rattle.std.specs.Cmp.Rules.{comparing};
+    ghost use Rattle.std.proofs.Common.{rules};
+
+    ghost eq = { pointwise ◌==◌ };
+
+    ghost laws = { Prim.search (comparing, rules) };
+
+    fn eq(&self, other: &Name) -> bool {
+        self.text() == other.text()
+    }
+}
+
+impl Eq for Name {
+    ghost use Rattle.std.specs.Cmp.Rules.{comparing};
+    ghost use Rattle.std.proofs.Common.{rules};
+
+    ghost laws = { Prim.search (comparing, rules) };
+}
+
+/// By the bytes of their texts.
+impl Ord for Name {
+    ghost use Rattle.std.specs.Ordering.{nat_cmp};
+    ghost use Rattle.std.specs.Cmp.Lexicographic.{slice_cmp};
+    ghost use Rattle.std.specs.Cmp.Rules.{comparing};
+    ghost use Rattle.std.proofs.Common.{rules};
+
+    ghost cmp = { slice_cmp nat_cmp };
+
+    ghost total = { Prim.search (comparing, rules) };
+
+    ghost matches_partial_cmp = { Prim.search (comparing, rules) };
+
+    ghost matches_eq = { Prim.search (comparing, rules) };
+
+    fn cmp(&self, other: &Name) -> Ordering {
+        self.text().cmp(other.text())
+    }
+}
+
+impl PartialOrd for Name {
+    ghost use Rattle.std.specs.Ordering.{nat_cmp, as_partial_cmp};
+    ghost use Rattle.std.specs.Cmp.{partial_order_from_own_ties};
+    ghost use Rattle.std.specs.Cmp.Lexicographic.{slice_cmp};
+    ghost use Rattle.std.specs.Cmp.Rules.{comparing};
+    ghost use Rattle.std.proofs.Common.{rules};
+
+    ghost partial_cmp = { as_partial_cmp (slice_cmp nat_cmp) };
+
+    ghost laws = { partial_order_from_own_ties (Prim.search (comparing, rules)) (Prim.search (comparing, rules)) };
+
+    fn partial_cmp(&self, other: &Name) -> Option<Ordering> {
+        Some(self.cmp(other))
+    }
 }
 
 /// Why the text is no name: that of a secret, or else of a folder, whose last part too may not end
 /// in `.gpg`.
-fn fault_in(text: &str, is_secret: bool) -> Option<BadName>
+pub(crate) fn fault_in(text: &str, is_secret: bool) -> Option<BadName>
     ensures { MatchOption result ((length text.now ≤ 400) × AreGood is_secret (parts text.now)) (IsFault is_secret text.now) }
 {
     if text.len() > 400 {

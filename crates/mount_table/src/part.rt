@@ -2,6 +2,7 @@
 
 ghost use Rattle.std.specs.Prelude.{◌≡◌, ◌↔◌, ℕ, IsTrue, length};
 ghost use Rattle.mount_table.specs.Names.{parts, IsHidden, IsSealedName};
+ghost use Rattle.mount_table.specs.Prefixes.{IsPrefix};
 
 pub(crate) fn is_hidden(part: &str) -> bool
     ensures { IsTrue result ↔ IsHidden part.now }
@@ -19,4 +20,14 @@ pub(crate) fn part_count(text: &str) -> usize
     ensures { result ≡ length (parts text.now) }
 {
     text.split('/').count()
+}
+
+/// Whether one text's parts are how the other's begin.
+pub(crate) fn is_prefix(outer: &[u8], inner: &[u8]) -> bool
+    ensures { IsTrue result ↔ IsPrefix (parts outer.now) (parts inner.now) }
+{
+    match inner.strip_prefix(outer) {
+        Some(rest) => rest.is_empty() || rest.starts_with(b"/"),
+        None => false,
+    }
 }

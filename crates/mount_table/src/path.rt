@@ -1,12 +1,14 @@
 //! Paths of the disk.
 
-ghost use Rattle.std.specs.Prelude.{◌≡◌, ◌↔◌, ℕ, List, IsTrue, IsOk, IfOk, All, Err, length};
+ghost use Rattle.std.specs.Prelude.{◌≡◌, ◌↔◌, ℕ, List, IsTrue, IsOk, IfOk, OnOk, All, Err, length};
+ghost use Rattle.std.specs.Str.{is_utf8};
 ghost use Rattle.mount_table.specs.Names.{parts, IsHidden, IsSealedName};
 ghost use Rattle.mount_table.specs.Paths.{IsPathPart, IsFilePath, IsDirPath, path_in, file_of, service_text};
+ghost use Rattle.mount_table.specs.Prefixes.{Nest};
 ghost use Rattle.mount_table.specs.declared.path.PathFault.TheVariants.{NoMemory};
 
 use crate::name::Name;
-use crate::part::{is_hidden, is_sealed_name, part_count};
+use crate::part::{is_hidden, is_prefix, is_sealed_name, part_count};
 use crate::service::ServiceFile;
 use gopass_base::{NoMemory, is_printable};
 use std::alloc::{AllocError, Global};
@@ -68,6 +70,15 @@ impl FilePath {
         ensures good { IsFilePath self.now }
     {
         &self.text
+    }
+
+    /// The same path once more.
+    pub fn copy(&self, alloc: Global) -> Result<FilePath, NoMemory>
+        ensures { IfOk result (λ copy. copy ≡ self.now) }
+    {
+        Ok(FilePath {
+            text: String::from_str(alloc, &self.text)?,
+        })
     }
 }
 
@@ -189,6 +200,25 @@ impl DirPath {
         &self.text
     }
 
+    /// The same directory once more.
+    pub fn copy(&self, alloc: Global) -> Result<DirPath, NoMemory>
+        ensures copy { IfOk result (λ copy. copy ≡ self.now) }
+        ensures good { OnOk result (IsTrue (is_utf8 self.now) × IsDirPath self.now) }
+    {
+        Ok(DirPath {
+            text: String::from_str(alloc, &self.text)?,
+        })
+    }
+
+    /// Whether one of the two directories is the other or lies in it.
+    pub(crate) fn nests(&self, other: &DirPath) -> bool
+        ensures { IsTrue result ↔ Nest self.now other.now }
+    {
+        let own = self.text().as_bytes();
+        let other = other.text().as_bytes();
+        is_prefix(own, other) || is_prefix(other, own)
+    }
+
     /// The path of what lies in the directory: its text, `/` and the rest, read as a file's path.
     pub fn join(&self, alloc: Global, rest: &str) -> Result<FilePath, PathFault>
         ensures path { IfOk result (λ path. path ≡ path_in self.now rest.now) }
@@ -230,6 +260,64 @@ impl DirPath {
             Err(PathFault::NoMemory) => Err(NoMemory),
             Err(PathFault::Bad) => unreachable!(),
         }
+    }
+}
+
+impl PartialEq for DirPath {
+    ghost use Rattle.std.specs.Prelude.{◌==◌};
+    ghost use Rattle.std.specs.Cmp.Lexicographic.{pointwise};
+    ghost use Rattle.std.specs.Cmp.Rules.{comparing};
+    ghost use Rattle.std.proofs.Common.{rules};
+
+    ghost eq = { pointwise ◌==◌ };
+
+    ghost laws = { Prim.search (comparing, rules) };
+
+    fn eq(&self, other: &DirPath) -> bool {
+        self.text() == other.text()
+    }
+}
+
+impl Eq for DirPath {
+    ghost use Rattle.std.specs.Cmp.Rules.{comparing};
+    ghost use Rattle.std.proofs.Common.{rules};
+
+    ghost laws = { Prim.search (comparing, rules) };
+}
+
+/// By the bytes of their texts.
+impl Ord for DirPath {
+    ghost use Rattle.std.specs.Ordering.{nat_cmp};
+    ghost use Rattle.std.specs.Cmp.Lexicographic.{slice_cmp};
+    ghost use Rattle.std.specs.Cmp.Rules.{comparing};
+    ghost use Rattle.std.proofs.Common.{rules};
+
+    ghost cmp = { slice_cmp nat_cmp };
+
+    ghost total = { Prim.search (comparing, rules) };
+
+    ghost matches_partial_cmp = { Prim.search (comparing, rules) };
+
+    ghost matches_eq = { Prim.search (comparing, rules) };
+
+    fn cmp(&self, other: &DirPath) -> Ordering {
+        self.text().cmp(other.text())
+    }
+}
+
+impl PartialOrd for DirPath {
+    ghost use Rattle.std.specs.Ordering.{nat_cmp, as_partial_cmp};
+    ghost use Rattle.std.specs.Cmp.{partial_order_from_own_ties};
+    ghost use Rattle.std.specs.Cmp.Lexicographic.{slice_cmp};
+    ghost use Rattle.std.specs.Cmp.Rules.{comparing};
+    ghost use Rattle.std.proofs.Common.{rules};
+
+    ghost partial_cmp = { as_partial_cmp (slice_cmp nat_cmp) };
+
+    ghost laws = { partial_order_from_own_ties (Prim.search (comparing, rules)) (Prim.search (comparing, rules)) };
+
+    fn partial_cmp(&self, other: &DirPath) -> Option<Ordering> {
+        Some(self.cmp(other))
     }
 }
 

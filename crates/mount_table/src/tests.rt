@@ -131,3 +131,148 @@ fn files_in_a_directory(rt: HostRuntime) -> Result<(), Fail> {
     }
     Ok(())
 }
+
+#[test]
+fn folders(rt: HostRuntime) -> Result<(), Fail> {
+    for (text, fault) in [
+        ("/", None),
+        ("a", None),
+        ("a/b/", None),
+        ("", name_fault(0, NameKind::Empty)),
+        ("//", name_fault(0, NameKind::Empty)),
+        ("a//", name_fault(2, NameKind::Empty)),
+        ("a/.b/", name_fault(2, NameKind::Dots)),
+        ("a/x.gpg", name_fault(2, NameKind::FolderGpg)),
+        ("x.gpg/y", name_fault(0, NameKind::FolderGpg)),
+    ] {
+        assert_eq!(rt; Folder::read(rt.alloc(), text).err(), fault, "at {text}");
+    }
+    for (lengths, fault) in [
+        ([100, 100, 100, 97].as_slice(), None),
+        (&[100, 100, 100, 98], name_fault(400, NameKind::LongName)),
+        ([1; 16].as_slice(), None),
+        ([1; 17].as_slice(), name_fault(32, NameKind::ManyParts)),
+        (&[101], name_fault(0, NameKind::LongPart)),
+    ] {
+        let text = text_of(rt.alloc(), lengths)?;
+        assert_eq!(rt; Folder::read(rt.alloc(), &text).err(), fault, "at {text}");
+    }
+    for (text, folder) in [("/", ""), ("a/b", "a/b"), ("a/b/", "a/b")] {
+        assert_eq!(rt; Folder::read(rt.alloc(), text)?.text(), folder);
+    }
+    for (folder, name, holds) in [
+        ("/", "a", true),
+        ("a/b", "a/b/c", true),
+        ("a/b", "a/b", false),
+        ("a/b", "a/bc/d", false),
+        ("a/b", "a", false),
+    ] {
+        let folder = Folder::read(rt.alloc(), folder)?;
+        let name = Name::read(rt.alloc(), name)?;
+        assert_eq!(rt; folder.holds(&name), holds);
+    }
+    Ok(())
+}
+
+/// The mounts `work` at `w` and `work/db` at `d`, beside the root's.
+fn work_mounts(rt: &HostRuntime) -> Result<Mounts, Fail> {
+    let mut mounts = Mounts::only(rt.alloc(), &DirPath::read(rt.alloc(), "root")?)?;
+    for (alias, dir) in [("work/db", "d"), ("work", "w")] {
+        let alias = Folder::read(rt.alloc(), alias)?;
+        let dir = DirPath::read(rt.alloc(), dir)?;
+        mounts.add(&alias, &dir)?;
+    }
+    Ok(mounts)
+}
+
+#[test]
+fn mount_of_a_name(rt: HostRuntime) -> Result<(), Fail> {
+    let mounts = work_mounts(&rt)?;
+    for (name, row, from, file) in [
+        ("work/db/x", 2, 8, "d/x.gpg"),
+        ("work/dbx/x", 1, 5, "w/dbx/x.gpg"),
+        ("work/db", 1, 5, "w/db.gpg"),
+        ("work", 0, 0, "root/work.gpg"),
+    ] {
+        let name = Name::read(rt.alloc(), name)?;
+        assert_eq!(rt; mounts.resolve(&name), Place { row, from });
+        assert_eq!(rt; mounts.file_of(rt.alloc(), &name)?.text(), file);
+    }
+    for (folder, row) in [("work/db", 2), ("work/dbx", 1), ("work", 1), ("/", 0)] {
+        let folder = Folder::read(rt.alloc(), folder)?;
+        assert_eq!(rt; mounts.resolve_folder(&folder), row);
+    }
+    Ok(())
+}
+
+#[test]
+fn mounts_come_and_go(rt: HostRuntime) -> Result<(), Fail> {
+    let mut mounts = work_mounts(&rt)?;
+    for (alias, dir, fault) in [
+        ("x", "w/y", AddFault::DirNests(1)),
+        ("x", "root", AddFault::DirNests(0)),
+        ("work", "z", AddFault::AliasUsed),
+        ("/", "w", AddFault::AliasUsed),
+    ] {
+        let alias = Folder::read(rt.alloc(), alias)?;
+        let dir = DirPath::read(rt.alloc(), dir)?;
+        assert_eq!(rt; mounts.add(&alias, &dir).err(), Some(fault));
+    }
+    let work = Folder::read(rt.alloc(), "work")?;
+    for absent in ["/", "x"] {
+        let absent = Folder::read(rt.alloc(), absent)?;
+        assert!(rt; mounts.remove(&absent).is_err());
+    }
+    assert!(rt; mounts.rows().len() > 2);
+    mounts.set_git(2);
+    assert_eq!(rt; mounts.remove(&work)?.dir.text(), "w");
+    assert_eq!(rt;
+        mounts.write(rt.alloc())?.as_slice(),
+        b"\troot\tplain\nwork/db\td\tgit\n".as_slice()
+    );
+    Ok(())
+}
+
+#[test]
+fn at_most_64_mounts(rt: HostRuntime) -> Result<(), Fail> {
+    let mut mounts = Mounts::only(rt.alloc(), &DirPath::read(rt.alloc(), "root")?)?;
+    for length in 1..65 {
+        let text = text_of(rt.alloc(), &[length])?;
+        let alias = Folder::read(rt.alloc(), &text)?;
+        let dir = DirPath::read(rt.alloc(), &text)?;
+        let fault = if length == 64 {
+            Some(AddFault::Full)
+        } else {
+            None
+        };
+        assert_eq!(rt; mounts.add(&alias, &dir).err(), fault);
+    }
+    assert_eq!(rt; mounts.rows().len(), 64);
+    Ok(())
+}
+
+#[test]
+fn text_of_mounts(rt: HostRuntime) -> Result<(), Fail> {
+    let root = DirPath::read(rt.alloc(), "root")?;
+    let text = b"\troot\tplain\nwork\tw\tplain\nwork/db\td\tplain\n";
+    let mounts = work_mounts(&rt)?.copy(rt.alloc())?;
+    assert_eq!(rt; mounts.write(rt.alloc())?.as_slice(), text.as_slice());
+    for (bytes, line) in [
+        (text.as_slice(), None),
+        (b"\troot\tplain\nwork\tw\tplain\nwork/db\td\tplain", Some(3)),
+        (b"", Some(1)),
+        (b"\tother\tplain\n", Some(1)),
+        (b"a\troot\tplain\n", Some(1)),
+        (b"\troot\tplain\n\n", Some(2)),
+        (b"\troot\tplain\nb\tx\tgit\na\ty\tgit\n", Some(3)),
+        (b"\troot\tplain\na\tx\tgit\na\ty\tgit\n", Some(3)),
+        (b"\troot\tplain\na\tx\tgit\nb\tx/y\tgit\n", Some(3)),
+        (b"\troot\tplain\na/\tx\tgit\n", Some(2)),
+        (b"\troot\tplain\na\tx\tGit\n", Some(2)),
+        (b"\troot\tplain\n\xff\tx\tgit\n", Some(2)),
+    ] {
+        let fault = line.map(|line| MountsFault::BadLine(line));
+        assert_eq!(rt; Mounts::read(rt.alloc(), bytes, &root).err(), fault);
+    }
+    Ok(())
+}

@@ -1,0 +1,11 @@
+use Rattle.std.proofs.Common.{◌≡◌, ◌≢◌, rules}
+use Rattle.std.proofs.lemmas.Iterator.{YieldsList-from_slice, IsFirst-from_position}
+use borrow.Author.Tests.{tests}
+use Rattle.mount_table.specs.declared.mounts.Row.{Row}
+use Rattle.mount_table.proofs.TableLemmas.{first_alias}
+use Rattle.mount_table.proofs.mounts.row_of.Goals as goal
+
+pub returns : goal.returns
+returns c =
+    first_alias c.position.result c.args.rows.now c.args.alias.now
+    (IsFirst-from_position _ _ c.position.result (λ (row : Row). row.alias ≡ c.args.alias.now) (λ (row : Row). row.alias ≢ c.args.alias.now) c.position.ensures.ran (YieldsList-from_slice c.args.rows.now cc) (λ x q k. search (rules, tests)) (λ x q k. search (rules, tests)))
