@@ -1,4 +1,2 @@
-pub mod RecipientsLemmas
-pub mod LineLemmas
 pub mod StandinLemmas
 pub mod StandinAgain

@@ -17,27 +17,20 @@ use Rattle.std.proofs.lemmas.List.Sums.{AllPass-from_list_all}
 use Rattle.hex.specs.Hex.{IsBytes, decode_of, encode_lower, encode_with, lower_digits}
 use Rattle.hex.proofs.HexLemmas.{decode_of-encode_lower, length-encode_with}
 use Rattle.gopass_base.specs.Text.{Text, IsPrintable}
-use Rattle.cipher_port.specs.Ids.{Ids, IsId, IsRising, IsRecipients}
-use Rattle.cipher_port.specs.Tool.{Content}
+use Rattle.recipient_files.specs.Ids.{Ids, IsId, IsRising, IsRecipients}
+use Rattle.cipher_port.specs.Tool.{Content, made_of}
 use Rattle.cipher_port.specs.StandinText.{IsStandinText, to_line}
-use Rattle.cipher_port.specs.Standin.{id_at, is_below, with_id, is_lower_digit, body_of, digits_at, made_of, from_body, from_recipients, from_header, pieces_of, standin_content}
+use Rattle.recipient_files.specs.IdText.{id_at}
+use Rattle.gopass_base.specs.Lines.{pieces_of}
+use Rattle.cipher_port.specs.Standin.{is_below, with_id, is_lower_digit, body_of, digits_at, from_body, from_recipients, from_header, standin_content}
 use Rattle.cipher_port.specs.StandinLaws.{lower_digit, lower_at, body_text, text_parts}
-use Rattle.cipher_port.proofs.StandinLemmas.{id_at-good}
+use Rattle.gopass_base.proofs.LineLemmas.{IsOneLine, line_first}
+use Rattle.recipient_files.proofs.IdLemmas.{id_at-good, one_line_id}
 
 -- ---- lines
 
--- no byte is an LF
-abbrev IsOneLine : Text → Type 0
-IsOneLine line = All (λ b. eqb b 10 ≡ false) line
-
-line_first : (line rest : Text) → IsOneLine line → pieces_of (line ++ 10 ∷ rest) ≡ line ∷ pieces_of rest
-line_first line rest one = slice_split_at (λ b. eqb b 10) line 10 rest one refl
-
 one_line_word : (word : Text) → list_all (λ b. not (eqb b 10)) word ≡ true → IsOneLine word
 one_line_word word e = All-weaker (λ b. not (eqb b 10) ≡ true) (λ b. eqb b 10 ≡ false) (λ b q. not-true (eqb b 10) q) word (AllPass-from_list_all (λ b. not (eqb b 10)) word e)
-
-one_line_id : (id : Text) → IsId id → IsOneLine id
-one_line_id id good = All-weaker IsPrintable (λ b. eqb b 10 ≡ false) (λ b q. ne_eqb b 10 (λ same. let low = q.0 in omega (arith, low, same))) id good.printable
 
 -- ---- digits
 

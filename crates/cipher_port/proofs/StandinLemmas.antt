@@ -7,25 +7,17 @@ use Rattle.std.proofs.lemmas.Bool.{cases_Bool, false_from_ne_true}
 use Rattle.std.proofs.lemmas.List.Splits.{join_with_byte-slice_split}
 use Rattle.std.proofs.lemmas.Slice.Eq.{bytes_eq-Decides}
 use Rattle.gopass_base.specs.Text.{Text}
-use Rattle.cipher_port.specs.Cut.{cut_at}
-use Rattle.cipher_port.specs.Ids.{Ids, IsId}
-use Rattle.cipher_port.specs.Tool.{Content}
-use Rattle.cipher_port.specs.Standin.{is_id, id_at, with_id, begins, is_end, digits_at, body_of, made_of, from_body, from_recipients, from_header, pieces_of, standin_content}
+use Rattle.gopass_base.specs.Lines.{cut_at}
+use Rattle.recipient_files.specs.Ids.{Ids, IsId}
+use Rattle.cipher_port.specs.Tool.{Content, made_of}
+use Rattle.recipient_files.specs.IdText.{is_id, id_at}
+use Rattle.gopass_base.specs.Lines.{pieces_of}
+use Rattle.cipher_port.specs.Standin.{with_id, begins, is_end, digits_at, body_of, from_body, from_recipients, from_header, standin_content}
 use Rattle.cipher_port.specs.StandinReads.{Gives}
 use Rattle.cipher_port.specs.declared.standin.StandinFault.{StandinFault}
 use Rattle.cipher_port.specs.declared.standin.StandinFault.TheVariants.{NotSealed, NoMemory}
-use Rattle.cipher_port.specs.StandinLaws.{is_id_tells, is_end_only}
-use Rattle.cipher_port.proofs.LineLemmas.{pair, pieces_cut, pieces_end}
-
--- ---- an id
-
-pub id_at-good : (text : Text) → IsId text → id_at text ≡ Some text
-unfolding id_at
-id_at-good text id = ap (λ t. cond t (Some text) None) ((is_id_tells text).1 id)
-
-pub id_at-bad : (text : Text) → ¬ IsId text → id_at text ≡ None
-unfolding id_at
-id_at-bad text bad = ap (λ t. cond t (Some text) None) (false_from_ne_true (is_id text) (λ e. bad ((is_id_tells text).0 e)))
+use Rattle.cipher_port.specs.StandinLaws.{is_end_only}
+use Rattle.gopass_base.proofs.LineLemmas.{pair, pieces_cut, pieces_end}
 
 -- ---- what a reader answers
 

@@ -1,6 +1,4 @@
-pub mod Ids
 pub mod Tool
-pub mod Cut
 pub mod StandinText
 pub mod Standin
 pub mod StandinReads

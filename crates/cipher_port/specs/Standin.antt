@@ -1,35 +1,18 @@
 -- What a text of the stand-in is the text of.
-use Rattle.std.specs.Prelude.{ℕ, ◌-◌, ◌==◌, Bool, false, not, ◌&&◌, ◌||◌, nat_le, nat_lt, List, [], ◌∷◌, ◌++◌, length, take, drop, slice_index, codes, bytes_eq, if◌then◌else◌, Option, None, Some, option_map}
+use Rattle.std.specs.Prelude.{ℕ, ◌==◌, Bool, false, ◌&&◌, ◌||◌, nat_le, nat_lt, List, [], ◌∷◌, ◌++◌, length, take, drop, codes, bytes_eq, if◌then◌else◌, Option, None, Some, option_map}
 use Rattle.std.specs.Option.{option_and_then}
-use Rattle.std.specs.Str.{is_utf8}
-use Rattle.std.specs.List.{list_all, slice_split}
+use Rattle.std.specs.List.{list_all}
 use Rattle.std.specs.Result.{result_ok}
 use Rattle.std.specs.Ordering.{nat_cmp, is_lt}
 use Rattle.std.specs.Cmp.Lexicographic.{slice_cmp}
 use Rattle.hex.specs.Hex.{decode_of}
 use Rattle.gopass_base.specs.Text.{Text}
-use Rattle.cipher_port.specs.Ids.{Ids}
-use Rattle.cipher_port.specs.Tool.{Content}
+use Rattle.gopass_base.specs.Lines.{pieces_of}
+use Rattle.recipient_files.specs.Ids.{Ids}
+use Rattle.recipient_files.specs.IdText.{id_at}
+use Rattle.cipher_port.specs.Tool.{Content, made_of}
 
--- ---- an id
-
--- neither a control byte, nor DEL, nor `#`
-abbrev pub is_id_byte : ℕ → Bool
-is_id_byte b = nat_le 32 b && (not (b == 127) && not (b == 35))
-
--- no space, no `-` and no `@`
-abbrev pub is_first_byte : ℕ → Bool
-is_first_byte b = not (b == 32) && (not (b == 45) && not (b == 64))
-
--- whether a text is an id
-unfoldable pub is_id : Text → Bool
-is_id text =
-    nat_le 1 (length text) && (nat_le (length text) 200 && (is_utf8 text && (list_all is_id_byte text
-    && (is_first_byte (slice_index text 0) && not (slice_index text (length text - 1) == 32)))))
-
--- the text, if it is an id
-unfoldable pub id_at : Text → Option Text
-id_at text = if is_id text then Some text else None
+-- ---- an id behind others
 
 -- whether an id is below a text, by bytes
 abbrev pub is_below : Text → Text → Bool
@@ -72,10 +55,6 @@ are_body_digits digits = nat_le (length digits) 65536 && list_all is_lower_digit
 unfoldable pub body_of : Text → Option Text
 body_of digits = if are_body_digits digits then result_ok (decode_of digits) else None
 
--- the content with these recipients and this body
-abbrev pub made_of : Ids → Text → Content
-made_of ids body = record { to = ids; body = body }
-
 -- what the line of a body behind some ids, and the lines after it, are the text of
 unfoldable pub from_body : Ids → Text → List Text → Option Content
 from_body ids line after =
@@ -93,10 +72,6 @@ from_recipients ids (line ∷ after) =
 abbrev pub from_header : List Text → Option Content
 from_header [] = None
 from_header (line ∷ after) = if bytes_eq line (codes "gopass-standin 1") then from_recipients [] after else None
-
--- the lines of a text, each ended by an LF, and last what stands behind the last LF
-abbrev pub pieces_of : Text → List Text
-pieces_of text = slice_split (λ b. b == 10) text
 
 -- the recipients and the body that a text is the text of
 unfoldable pub standin_content : Text → Option Content

@@ -1,6 +1,6 @@
 -- What the readers of the stand-in's parts answer.
 use Rattle.std.specs.Prelude.{◌≡◌, ◌≤◌, length, All, Option, None, Some, Result, Ok, Err}
-use Rattle.cipher_port.specs.Ids.{Ids, IsId, IsRising}
+use Rattle.recipient_files.specs.Ids.{Ids, IsId, IsRising}
 use Rattle.cipher_port.specs.declared.standin.StandinFault.{StandinFault}
 use Rattle.cipher_port.specs.declared.standin.StandinFault.TheVariants.{NotSealed, NoMemory}
 

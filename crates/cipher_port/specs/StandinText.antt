@@ -3,7 +3,7 @@ use Rattle.std.specs.Prelude.{◌≡◌, ◌≤◌, ◌++◌, length, codes}
 use Rattle.std.specs.List.{flat_map}
 use Rattle.hex.specs.Hex.{IsBytes, encode_lower}
 use Rattle.gopass_base.specs.Text.{Text}
-use Rattle.cipher_port.specs.Ids.{IsRecipients}
+use Rattle.recipient_files.specs.Ids.{IsRecipients}
 use Rattle.cipher_port.specs.Tool.{Content}
 
 -- the line of a recipient

@@ -1,8 +1,12 @@
--- What a cipher tool means: which bytes open to what, and for whom it opens.
-use Rattle.std.specs.Prelude.{◌≡◌, ℕ, ◌<◌, ◌≤◌, Bool, true, false, bytes_eq, length, Option, None, Some, Result, Ok, Err, Vec}
+-- What a cipher tool means: which bytes open to what, and for whom it seals and opens.
+use Rattle.std.specs.Prelude.{◌≡◌, ℕ, ◌<◌, ◌≤◌, Bool, true, false, not, length, position, Option, None, Some, Result, Ok, Err, Vec}
 use Rattle.std.specs.List.{list_any}
 use Rattle.gopass_base.specs.Text.{Text}
-use Rattle.cipher_port.specs.Ids.{Ids, IsRecipients}
+use Rattle.recipient_files.specs.Ids.{Ids, IsRecipients, is_among}
+use Rattle.cipher_port.specs.declared.cipher.SealFault.{SealFault}
+use Rattle.cipher_port.specs.declared.cipher.SealFault.TheVariants as seal
+use Rattle.cipher_port.specs.declared.cipher.WhomFault.{WhomFault}
+use Rattle.cipher_port.specs.declared.cipher.WhomFault.TheVariants as whom
 use Rattle.cipher_port.specs.declared.cipher.UnsealFault.{UnsealFault}
 use Rattle.cipher_port.specs.declared.cipher.UnsealFault.TheVariants.{NoKey, NotSealed, Failed, NoMemory}
 
@@ -10,6 +14,10 @@ use Rattle.cipher_port.specs.declared.cipher.UnsealFault.TheVariants.{NoKey, Not
 pub record Content : Type 0 where
   pub to : Ids
   pub body : Text
+
+-- the content with these recipients and this body
+abbrev pub made_of : Ids → Text → Content
+made_of ids body = record { to = ids; body = body }
 
 -- what is made of bytes, or nothing where they are not sealed
 abbrev pub Opens : Type 0
@@ -20,16 +28,17 @@ pub record Ring : Type 0 where
   pub known : Ids
   pub held : Ids
 
--- a tool: whether it tells what it does, what bytes open to, its ring, and how often a call failed
+-- a tool: whether it tells what it does, what bytes open to, its ring, how often it was called, and how often a call failed
 pub record ToolMeaning (C : Type 0) : Type 1 where
   pub tells : Type 0
   pub opens : Opens
   pub ring : C → Ring
+  pub calls : C → ℕ
   pub faults : C → ℕ
 
--- whether this is one of the ids
-abbrev pub is_among : Ids → Text → Bool
-is_among ids id = list_any (λ one. bytes_eq one id) ids
+-- the place of the first id that the tool cannot seal for
+abbrev pub first_unknown : Ring → Ids → Option ℕ
+first_unknown ring ids = position (λ id. not (is_among ring.known id)) ids
 
 -- whether the tool has the key of one of the ids
 abbrev pub holds_one_of : Ring → Ids → Bool
@@ -39,6 +48,22 @@ holds_one_of ring ids = list_any (is_among ring.held) ids
 pub record IsSealing (bytes : Text) (content : Option Content) : Type 0 where
   pub long : 131072 < length bytes → content ≡ None
   pub each : (c : Content) → content ≡ Some c → IsRecipients c.to × (length c.body ≤ 32768)
+
+-- what `seal` answers: bytes that open to just these ids and this body, and `UnknownId` with the place of the first id
+-- that is not known; a failed call and want of memory may stand for both
+abbrev pub Seals : {A : Type 0} → Opens → Ring → Content → Result (Vec ℕ A) SealFault → Type 0
+Seals opens ring content (Ok sealed) = (opens sealed.items ≡ Some content) × (first_unknown ring content.to ≡ None)
+Seals opens ring content (Err (seal.UnknownId place)) = first_unknown ring content.to ≡ Some place
+Seals opens ring content (Err seal.Failed) = Unit {0}
+Seals opens ring content (Err seal.NoMemory) = Unit {0}
+
+-- what `whom` answers of bytes with this content: its ids, and `NotSealed` where there is no content; a failed call and
+-- want of memory may stand for both
+abbrev pub Names : Option Content → Result Ids WhomFault → Type 0
+Names content (Ok ids) = (c : Content) × (content ≡ Some c) × (c.to ≡ ids)
+Names content (Err whom.NotSealed) = content ≡ None
+Names content (Err whom.Failed) = Unit {0}
+Names content (Err whom.NoMemory) = Unit {0}
 
 -- what `open` answers of bytes with this content: the body where a key is held, `NoKey` where none is, `NotSealed`
 -- where there is no content; a failed call and want of memory may stand for each of these

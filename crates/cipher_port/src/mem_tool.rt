@@ -1,18 +1,22 @@
 //! A tool in memory.
 
-ghost use Rattle.std.specs.Prelude.{◌≡◌, ◌↔◌, ◌≤◌, ℕ, List, Contains, IfOk, Err, vec_len};
+ghost use Rattle.std.specs.Prelude.{◌≡◌, ◌↔◌, ◌<◌, ◌≤◌, ℕ, List, length, not, position, Contains, IfOk, IfSome, IsErr, Err, vec_len};
 ghost use Rattle.std.specs.List.{list_any};
 ghost use Rattle.gopass_base.specs.Calls.{Calls, no_calls, next_calls};
 ghost use Rattle.gopass_base.specs.Faults.{HasCause};
-ghost use Rattle.cipher_port.specs.Tool.{Ring, Unseals, is_among};
+ghost use Rattle.recipient_files.specs.Ids.{is_among};
+ghost use Rattle.cipher_port.specs.Tool.{Ring, Seals, Unseals, Names, made_of};
 ghost use Rattle.cipher_port.specs.Standin.{standin_content};
 
-use crate::{Cipher, Id, Sealed, StandinFault, UnsealFault, standin_read};
-use gopass_base::CallLog;
+use crate::{
+    Cipher, Id, Recipients, SealFault, Sealed, StandinFault, UnsealFault, WhomFault, standin_read,
+    standin_write,
+};
+use gopass_base::{CallLog, Failed};
 use std::alloc::Global;
 use std::marker::Model;
 
-/// A tool in memory that opens the stand-in for sealed files, and tells all that it does.
+/// A tool in memory that makes and opens the stand-in for sealed files, and tells all that it does.
 #[derive(Drop)]
 pub struct MemTool {
     known: Vec<Id>,
@@ -43,7 +47,24 @@ impl MemTool {
         }
     }
 
-    /// How many calls failed.
+    /// How many calls were made; the count stands at its last value.
+    pub fn calls(&self) -> u64
+        ensures { result ≡ self.now.calls.made }
+    {
+        self.calls.made()
+    }
+
+    /// Counts one more call, and fails where its number is one of those that fail.
+    fn call(&mut self) -> Result<(), Failed>
+        ensures ring { self.new.ring ≡ self.old.ring }
+        ensures calls { self.new.calls ≡ next_calls self.old.calls }
+        ensures fails { IsErr result ↔ Contains self.old.calls.failing self.old.calls.made }
+        ensures cause { HasCause self.old.calls.faults self.new.calls.faults (IsErr result) }
+    {
+        self.calls.call()
+    }
+
+    /// How many calls failed; the count stands at its last value.
     pub fn faults(&self) -> u64
         ensures { result ≡ self.now.calls.faults }
     {
@@ -52,11 +73,29 @@ impl MemTool {
 }
 
 impl Cipher for MemTool {
-    ghost meaning = { record { tells = Unit {0}; opens = standin_content; ring = λ tool. tool.ring; faults = λ tool. tool.calls.faults } };
+    ghost meaning = { record { tells = Unit {0}; opens = standin_content; ring = λ tool. tool.ring; calls = λ tool. tool.calls.made; faults = λ tool. tool.calls.faults } };
 
     ghost use Rattle.cipher_port.specs.StandinLaws.{standin_limits};
 
     ghost limits = { standin_limits };
+
+    fn seal(&mut self, alloc: Global, to: &Recipients, body: &[u8]) -> Result<Vec<u8>, SealFault>
+        requires { length body.now ≤ 32768 }
+        ensures sealed { Seals standin_content self.old.ring (made_of to.now body.now) result }
+        ensures bound { IfOk result (λ sealed. vec_len sealed ≤ 131072) }
+        ensures place { (place : ℕ) → result ≡ Err (SealFault.UnknownId place) → place < length to.now }
+        ensures ring { self.new.ring ≡ self.old.ring }
+        ensures calls { self.new.calls ≡ next_calls self.old.calls }
+        ensures fails { result ≡ Err SealFault.Failed ↔ Contains self.old.calls.failing self.old.calls.made }
+        ensures cause { HasCause self.old.calls.faults self.new.calls.faults (result ≡ Err SealFault.Failed) }
+    {
+        self.call()?;
+        if let Some(place) = first_unknown(&self.known, to.ids()) {
+            return Err(SealFault::UnknownId(place));
+        }
+        let sealed = standin_write(alloc, to, body)?;
+        Ok(sealed)
+    }
 
     fn open(&mut self, alloc: Global, sealed: &[u8]) -> Result<Vec<u8>, UnsealFault>
         ensures opened { Unseals (standin_content sealed.now) self.old.ring result }
@@ -66,12 +105,37 @@ impl Cipher for MemTool {
         ensures fails { result ≡ Err UnsealFault.Failed ↔ Contains self.old.calls.failing self.old.calls.made }
         ensures cause { HasCause self.old.calls.faults self.new.calls.faults (result ≡ Err UnsealFault.Failed) }
     {
-        self.calls.call()?;
+        self.call()?;
         let Sealed { to, body } = standin_read(alloc, sealed)?;
         if !holds_one_of(&self.held, to.ids()) {
             return Err(UnsealFault::NoKey);
         }
         Ok(body)
+    }
+
+    fn whom(&mut self, alloc: Global, sealed: &[u8]) -> Result<Recipients, WhomFault>
+        ensures names { Names (standin_content sealed.now) result }
+        ensures ring { self.new.ring ≡ self.old.ring }
+        ensures calls { self.new.calls ≡ next_calls self.old.calls }
+        ensures fails { result ≡ Err WhomFault.Failed ↔ Contains self.old.calls.failing self.old.calls.made }
+        ensures cause { HasCause self.old.calls.faults self.new.calls.faults (result ≡ Err WhomFault.Failed) }
+    {
+        self.call()?;
+        let Sealed { to, body: _ } = standin_read(alloc, sealed)?;
+        Ok(to)
+    }
+}
+
+impl From<StandinFault> for WhomFault {
+    ghost use Rattle.cipher_port.specs.MemTool.{WhomGives};
+
+    ghost from_gives = { WhomGives };
+
+    fn from(fault: StandinFault) -> Self {
+        match fault {
+            StandinFault::NotSealed => WhomFault::NotSealed,
+            StandinFault::NoMemory => WhomFault::NoMemory,
+        }
     }
 }
 
@@ -88,6 +152,14 @@ impl From<StandinFault> for UnsealFault {
     }
 }
 
+/// The place of the first id that is not known.
+fn first_unknown(known: &[Id], ids: &[Id]) -> Option<usize>
+    ensures first { result ≡ position (λ id. not (is_among known.now id)) ids.now }
+    ensures place { IfSome result (λ place. place < length ids.now) }
+{
+    ids.iter().position(|id| !known.contains(id))
+}
+
 fn holds_one_of(held: &[Id], ids: &[Id]) -> bool
     ensures { result ≡ list_any (is_among held.now) ids.now }
 {
@@ -97,8 +169,15 @@ fn holds_one_of(held: &[Id], ids: &[Id]) -> bool
 #[cfg(test)]
 mod tests {
     use super::*;
-    use crate::recipients::tests::ids;
     use std::test::Fail;
+
+    fn ids(alloc: Global, texts: &[&str]) -> Result<Vec<Id>, Fail> {
+        let mut ids = Vec::new(alloc);
+        for text in texts {
+            ids.push(Id::read(alloc, text)?)?;
+        }
+        Ok(ids)
+    }
 
     const SEALED: &[u8] = b"gopass-standin 1\nto alice\nto bob\nbody 70770a\nend\n";
 
@@ -128,6 +207,56 @@ mod tests {
             assert_eq!(rt; opened == Err(UnsealFault::Failed), is_failing);
             assert_eq!(rt; tool.faults(), faults);
         }
+        Ok(())
+    }
+
+    fn is_send<T: Send>() {}
+
+    fn set(alloc: Global, texts: &[&str]) -> Result<Recipients, Fail> {
+        Ok(Recipients::of(alloc, &ids(alloc, texts)?)?)
+    }
+
+    /// A tool that knows alice, bob and carol, and has the key of alice.
+    fn knowing(alloc: Global, failing: Vec<u64>) -> Result<MemTool, Fail> {
+        let known = ids(alloc, &["alice", "bob", "carol"])?;
+        Ok(MemTool::new(known, ids(alloc, &["alice"])?, failing))
+    }
+
+    #[test]
+    fn seals_for_known_ids(rt: HostRuntime) -> Result<(), Fail> {
+        is_send::<MemTool>();
+        let mut tool = knowing(rt.alloc(), Vec::new(rt.alloc()))?;
+        let two = set(rt.alloc(), &["alice", "bob"])?;
+        let sealed = tool.seal(rt.alloc(), &two, b"pw\n")?;
+        assert_eq!(rt; sealed.as_slice(), SEALED);
+        assert!(rt; tool.whom(rt.alloc(), SEALED)?.same(&two));
+        for (texts, place) in [
+            (["alice", "dave"].as_slice(), 1),
+            (["dave", "alice", "eve"].as_slice(), 1),
+            (["Zed", "alice"].as_slice(), 0),
+        ] {
+            let to = set(rt.alloc(), texts)?;
+            let sealed = tool.seal(rt.alloc(), &to, b"pw\n");
+            assert_eq!(rt; sealed, Err(SealFault::UnknownId(place)));
+        }
+        assert_eq!(rt; tool.calls(), 5);
+        assert_eq!(rt; tool.faults(), 0);
+        Ok(())
+    }
+
+    #[test]
+    fn tells_for_whom(rt: HostRuntime) -> Result<(), Fail> {
+        let failing = vec![in rt.alloc(); 1u64]?;
+        let mut tool = knowing(rt.alloc(), failing)?;
+        for (bytes, want) in [
+            (b"x".as_slice(), WhomFault::NotSealed),
+            (SEALED, WhomFault::Failed),
+        ] {
+            let whom = tool.whom(rt.alloc(), bytes);
+            assert!(rt; matches!(whom, Err(fault) if fault == want));
+        }
+        assert_eq!(rt; tool.calls(), 2);
+        assert_eq!(rt; tool.faults(), 1);
         Ok(())
     }
 }

@@ -1,16 +1,18 @@
 //! The stand-in for a sealed file: a text that names the recipients and has the body in hexadecimal.
 
-ghost use Rattle.std.specs.Prelude.{◌≡◌, ◌↔◌, [], Err, None, Some, IfOk, option_map};
+ghost use Rattle.std.specs.Prelude.{◌≡◌, ◌↔◌, ◌≤◌, ◌++◌, [], length, Err, None, Some, IfOk, option_map, vec_len};
+ghost use Rattle.std.specs.List.{flat_map};
 ghost use Rattle.gopass_base.specs.Text.{Text};
-ghost use Rattle.cipher_port.specs.Tool.{Content};
-ghost use Rattle.cipher_port.specs.StandinText.{IsStandinText};
-ghost use Rattle.cipher_port.specs.Standin.{id_at, has_place, with_id, is_end, digits_at, are_body_digits, body_of, made_of, from_body, from_recipients, pieces_of, standin_content};
+ghost use Rattle.gopass_base.specs.Lines.{pieces_of};
+ghost use Rattle.recipient_files.specs.IdText.{id_at};
+ghost use Rattle.cipher_port.specs.Tool.{Content, made_of};
+ghost use Rattle.cipher_port.specs.StandinText.{IsStandinText, standin_text, to_line};
+ghost use Rattle.cipher_port.specs.Standin.{has_place, with_id, is_end, digits_at, are_body_digits, body_of, from_body, from_recipients, standin_content};
 ghost use Rattle.cipher_port.specs.StandinReads.{Gives, IsSoFar};
 ghost use Rattle.cipher_port.specs.declared.standin.StandinFault.TheVariants.{NoMemory};
 
-use crate::cut::cut;
-use crate::id::IdFault;
-use crate::{Id, Recipients};
+use crate::{Id, IdFault, Recipients};
+use gopass_base::{NoMemory as NoRoom, cut};
 use hex::FromHexError;
 use std::alloc::{AllocError, AllocFailed, Global};
 
@@ -61,6 +63,49 @@ pub fn standin_read(alloc: Global, bytes: &[u8]) -> Result<Sealed, StandinFault>
         return Err(StandinFault::NotSealed);
     }
     read_lines(alloc, lines)
+}
+
+/// The text that is sealed for these recipients and this body of at most 32,768 bytes. It has at
+/// most 131,072 bytes, and is read as those.
+pub fn standin_write(alloc: Global, to: &Recipients, body: &[u8]) -> Result<Vec<u8>, NoRoom>
+    requires { length body.now ≤ 32768 }
+    ensures text { IfOk result (λ bytes. bytes.items ≡ standin_text (made_of to.now body.now)) }
+    ensures again { IfOk result (λ bytes. standin_content bytes.items ≡ Some (made_of to.now body.now)) }
+    ensures bound { IfOk result (λ bytes. vec_len bytes ≤ 131072) }
+{
+    let text = write_text(alloc, to.ids(), body)?;
+    Ok(text)
+}
+
+fn write_text(alloc: Global, ids: &[Id], body: &[u8]) -> Result<Vec<u8>, NoRoom>
+    ensures { IfOk result (λ bytes. bytes.items ≡ standin_text (made_of ids.now body.now)) }
+{
+    let mut text = Vec::new(alloc);
+    text.extend_from_slice(b"gopass-standin 1\n")?;
+    push_ids(&mut text, ids)?;
+    text.extend_from_slice(b"body ")?;
+    text.extend_from_slice(hex::encode(alloc, body)?.as_bytes())?;
+    text.extend_from_slice(b"\nend\n")?;
+    Ok(text)
+}
+
+/// A line for each id.
+fn push_ids(text: &mut Vec<u8>, ids: &[Id]) -> Result<(), NoRoom>
+    ensures { IfOk result (λ _. text.new.items ≡ text.old.items ++ flat_map to_line ids.now) }
+{
+    for id in ids {
+        push_id(text, id)?;
+    }
+    Ok(())
+}
+
+fn push_id(text: &mut Vec<u8>, id: &Id) -> Result<(), NoRoom>
+    ensures { IfOk result (λ _. text.new.items ≡ text.old.items ++ to_line id.now) }
+{
+    text.extend_from_slice(b"to ")?;
+    text.extend_from_slice(id.text().as_bytes())?;
+    text.push(b'\n')?;
+    Ok(())
 }
 
 /// Bytes are read as what they are the text of, and no bytes are the text of two contents.

@@ -76,3 +76,18 @@ fn keeps_the_limits(rt: HostRuntime) -> Result<(), Fail> {
     }
     Ok(())
 }
+
+#[test]
+fn writes_what_it_reads(rt: HostRuntime) -> Result<(), Fail> {
+    for text in [
+        "gopass-standin 1\nto alice\nto bob\nbody 70770a\nend\n",
+        "gopass-standin 1\nto alice\nbody \nend\n",
+    ] {
+        let sealed = standin_read(rt.alloc(), text.as_bytes())?;
+        let body = sealed.body.as_slice();
+        assert!(rt; body.len() <= 32_768);
+        let again = standin_write(rt.alloc(), &sealed.to, body)?;
+        assert_eq!(rt; again.as_slice(), text.as_bytes());
+    }
+    Ok(())
+}

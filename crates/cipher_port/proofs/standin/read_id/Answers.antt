@@ -1,7 +1,7 @@
 use Rattle.std.proofs.Common.{◌∙◌, ap, sym, subst, refl}
 use Rattle.std.specs.Prelude.{Some, Err}
-use Rattle.cipher_port.specs.Ids.{IsId}
-use Rattle.cipher_port.proofs.StandinLemmas.{id_at-good, id_at-bad}
+use Rattle.recipient_files.specs.Ids.{IsId}
+use Rattle.recipient_files.proofs.IdLemmas.{id_at-good, id_at-bad}
 use Rattle.cipher_port.proofs.standin.read_id.Goals as goal
 
 pub returns-in_default : goal.returns-in_default

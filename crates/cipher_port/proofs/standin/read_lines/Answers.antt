@@ -1,12 +1,13 @@
 use Rattle.std.proofs.Common.{◌≡◌, [], drop, ap, sym, subst, arith}
 use Rattle.std.specs.Prelude.{Some, None}
 use Rattle.std.proofs.lemmas.Result.{err_from_is_err_and}
-use Rattle.cipher_port.specs.Tool.{Content}
-use Rattle.cipher_port.specs.Standin.{with_id, made_of, from_recipients, from_body, pieces_of}
+use Rattle.cipher_port.specs.Tool.{Content, made_of}
+use Rattle.gopass_base.specs.Lines.{pieces_of}
+use Rattle.cipher_port.specs.Standin.{with_id, from_recipients, from_body}
 use Rattle.cipher_port.specs.StandinReads.{IsSoFar}
 use Rattle.cipher_port.specs.StandinLaws.{with_id_gives, none_so_far}
 use Rattle.cipher_port.specs.declared.standin.Sealed.{Sealed}
-use Rattle.cipher_port.proofs.LineLemmas.{cut_shorter}
+use Rattle.gopass_base.proofs.LineLemmas.{cut_shorter}
 use Rattle.cipher_port.proofs.StandinLemmas.{passed_on, same_read, line_taken, line_refused, line_other, lines_done}
 use Rattle.cipher_port.proofs.standin.read_lines.Goals as goal
 

@@ -1,5 +1,6 @@
 use Rattle.std.proofs.Common.{◌≡◌, [], length}
-use Rattle.cipher_port.specs.Standin.{from_recipients, pieces_of}
+use Rattle.gopass_base.specs.Lines.{pieces_of}
+use Rattle.cipher_port.specs.Standin.{from_recipients}
 use Rattle.cipher_port.specs.StandinReads.{IsSoFar}
 use Rattle.cipher_port.proofs.standin.read_lines.Given as goal
 

@@ -1,8 +1,9 @@
 use Rattle.std.proofs.Common.{◌∙◌, [], sym, ap}
 use Rattle.std.specs.Prelude.{bytes_eq}
 use Rattle.std.proofs.lemmas.Bool.{not-true, not-false}
-use Rattle.cipher_port.specs.Tool.{Content}
-use Rattle.cipher_port.specs.Standin.{made_of, from_recipients, pieces_of, standin_content}
+use Rattle.cipher_port.specs.Tool.{Content, made_of}
+use Rattle.gopass_base.specs.Lines.{pieces_of}
+use Rattle.cipher_port.specs.Standin.{from_recipients, standin_content}
 use Rattle.cipher_port.specs.declared.standin.Sealed.{Sealed}
 use Rattle.cipher_port.proofs.StandinLemmas.{read_ok, read_none, header_read, header_refused, header_missing}
 use Rattle.cipher_port.proofs.standin.standin_read.Goals as goal

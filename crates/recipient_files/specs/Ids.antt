@@ -1,0 +1,49 @@
+-- Ids of recipients, and sets of them.
+use Rattle.std.specs.Prelude.{◌≢◌, ◌↔◌, ℕ, ◌-◌, ◌≤◌, Bool, not, bytes_eq, filter, List, length, slice_index, All, Contains}
+use Rattle.std.specs.List.{list_any}
+use Rattle.std.specs.Str.{IsUtf8}
+use Rattle.std.specs.Ordering.{nat_cmp}
+use Rattle.std.specs.Cmp.Lexicographic.{slice_cmp}
+use Rattle.std.specs.List.Sorted.{IsStrictlySortedBy}
+use Rattle.gopass_base.specs.Text.{Text, IsPrintable}
+
+-- no space, and not the first byte of an option (`-`) or of a group (`@`)
+abbrev pub CanBegin : ℕ → Type 0
+CanBegin b = (b ≢ 32) × (b ≢ 45) × (b ≢ 64)
+
+-- an id: 1 to 200 printable bytes of UTF-8 without `#`, no space at either end, and no `-` or `@` in front
+pub record IsId (text : Text) : Type 0 where
+  pub some : 1 ≤ length text
+  pub short : length text ≤ 200
+  pub utf8 : IsUtf8 text
+  pub printable : All IsPrintable text
+  pub no_hash : All (λ b. b ≢ 35) text
+  pub begins : CanBegin (slice_index text 0)
+  pub ends : slice_index text (length text - 1) ≢ 32
+
+abbrev pub Ids : Type 0
+Ids = List Text
+
+-- whether this is one of the ids
+abbrev pub is_among : Ids → Text → Bool
+is_among ids id = list_any (λ one. bytes_eq one id) ids
+
+-- the ids without this one
+abbrev pub without : Ids → Text → Ids
+without ids id = filter (λ one. not (bytes_eq one id)) ids
+
+-- each id is below those behind it, by bytes
+abbrev pub IsRising : Ids → Type 0
+IsRising ids = IsStrictlySortedBy (slice_cmp nat_cmp) ids
+
+-- a set of recipients: 1 to 64 ids in rising order
+pub record IsRecipients (ids : Ids) : Type 0 where
+  pub some : 1 ≤ length ids
+  pub few : length ids ≤ 64
+  pub each : All IsId ids
+  pub rising : IsRising ids
+
+-- the set of the ids of a list, in rising order
+pub record IsSetOf (set ids : Ids) : Type 0 where
+  pub rising : IsRising set
+  pub same : (id : Text) → Contains set id ↔ Contains ids id

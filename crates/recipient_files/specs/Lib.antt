@@ -1,0 +1,5 @@
+pub mod Ids
+pub mod IdText
+pub mod Changes
+pub mod RuleText
+pub mod RuleReads

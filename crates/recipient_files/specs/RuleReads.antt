@@ -1,0 +1,27 @@
+-- What the readers of a rule file answer.
+use Rattle.std.specs.Prelude.{◌≡◌, ℕ, ◌≤◌, length, All, Option, Some, None, Result, Ok, Err}
+use Rattle.gopass_base.specs.Text.{Text}
+use Rattle.recipient_files.specs.Ids.{Ids, IsId}
+use Rattle.recipient_files.specs.RuleText.{BadLine, IsRule, bad_at, first_bad_line, text_fault, room_fault, line_fault, with_id, with_line}
+use Rattle.recipient_files.specs.declared.rule.RuleKind.{RuleKind}
+use Rattle.recipient_files.specs.declared.rule.RuleFault.{RuleFault}
+use Rattle.recipient_files.specs.declared.rule.RuleFault.TheVariants as rule
+use Rattle.recipient_files.specs.declared.rule.LineFault.{LineFault}
+use Rattle.recipient_files.specs.declared.rule.LineFault.TheVariants as line
+
+-- a value for which this holds, or the first bad line; want of memory may stand for both
+abbrev pub Reads : {X : Type 0} → (X → Type 0) → Option BadLine → Result X RuleFault → Type 0
+Reads Is bad (Ok x) = (bad ≡ None) × Is x
+Reads Is bad (Err (rule.Bad number kind)) = bad ≡ Some (bad_at number kind)
+Reads Is bad (Err rule.NoMemory) = Unit {0}
+
+-- the same of one line, whose number is not known yet
+abbrev pub ReadsLine : {X : Type 0} → (X → Type 0) → Option RuleKind → Result X LineFault → Type 0
+ReadsLine Is bad (Ok x) = (bad ≡ None) × Is x
+ReadsLine Is bad (Err (line.Bad kind)) = bad ≡ Some kind
+ReadsLine Is bad (Err line.NoMemory) = Unit {0}
+
+-- ids read so far: at most 64
+pub record IsSoFar (ids : Ids) : Type 0 where
+  pub few : length ids ≤ 64
+  pub each : All IsId ids
