@@ -1,0 +1,39 @@
+-- The commands, and what each takes.
+use Rattle.std.specs.Prelude.{ℕ, ◌==◌, true, false, List, [], ◌∷◌, Option, None, Some, codes, if◌then◌else◌}
+use Rattle.gopass_base.specs.Text.{Text}
+use Rattle.command_words.specs.Lookup.{Meant, meaning_of}
+use Rattle.command_words.specs.Options.{no_flags}
+use Rattle.command_words.specs.declared.verb.Verb.{Verb}
+use Rattle.command_words.specs.declared.verb.Verb.TheVariants.{Find, Ls, Mounts, Show}
+use Rattle.command_words.specs.declared.verb.Form.{Form}
+
+-- the words of the commands
+abbrev pub commands : List (Meant Verb)
+commands =
+    record { word = codes "find"; meaning = Find }
+    ∷ record { word = codes "list"; meaning = Ls }
+    ∷ record { word = codes "ls"; meaning = Ls }
+    ∷ record { word = codes "mounts"; meaning = Mounts }
+    ∷ record { word = codes "show"; meaning = Show }
+    ∷ []
+
+-- the command whose word this is
+abbrev pub verb_at : Text → Option Verb
+verb_at word = meaning_of commands word
+
+-- how many plain words a command takes, which options, and whether its second word is to name a
+-- subcommand, of which none is there
+abbrev pub form_of : Verb → Form
+form_of Find = record { least = 1; most = 1; flags = no_flags; has_subcommands = false }
+form_of Ls = record { least = 0; most = 1; flags = record no_flags { flat = true }; has_subcommands = false }
+form_of Mounts = record { least = 0; most = 0; flags = no_flags; has_subcommands = true }
+form_of Show = record { least = 1; most = 1; flags = no_flags; has_subcommands = false }
+
+-- the command of a row of the table
+abbrev pub verb_with : ℕ → Option Verb
+verb_with code =
+    if code == 0 then Some Find
+    else if code == 1 then Some Ls
+    else if code == 2 then Some Show
+    else if code == 3 then Some Mounts
+    else None

@@ -1,0 +1,32 @@
+-- Options without a value.
+use Rattle.std.specs.Prelude.{ℕ, ◌==◌, Bool, true, false, List, [], ◌∷◌, Option, None, Some, codes, if◌then◌else◌}
+use Rattle.gopass_base.specs.Text.{Text}
+use Rattle.command_words.specs.Lookup.{Meant, meaning_of}
+use Rattle.command_words.specs.declared.options.Flag.{Flag}
+use Rattle.command_words.specs.declared.options.Flag.TheVariants.{Flat}
+use Rattle.command_words.specs.declared.options.Flags.{Flags}
+
+-- the spellings of the options
+abbrev pub spellings : List (Meant Flag)
+spellings = record { word = codes "--flat"; meaning = Flat } ∷ []
+
+-- the option that a word spells
+abbrev pub flag_at : Text → Option Flag
+flag_at word = meaning_of spellings word
+
+-- the option of a row of the table
+abbrev pub flag_with : ℕ → Option Flag
+flag_with code =
+    if code == 0 then Some Flat
+    else None
+
+abbrev pub no_flags : Flags
+no_flags = record { flat = false }
+
+-- whether an option is in a set
+abbrev pub has : Flags → Flag → Bool
+has flags Flat = flags.flat
+
+-- a set with one option more
+abbrev pub with : Flags → Flag → Flags
+with flags Flat = record flags { flat = true }

@@ -1,0 +1,56 @@
+//! What a command line asks for.
+
+ghost use Rattle.std.specs.Prelude.{◌≡◌, ◌≤◌, ◌∷◌, [], vec_len, map, string_bytes};
+ghost use Rattle.std.specs.Option.{option_to_list};
+ghost use Rattle.command_words.specs.Forms.{form_of};
+ghost use Rattle.command_words.specs.Said.{only, said};
+
+use crate::options::Flags;
+use crate::verb::Verb;
+
+/// A command with its texts as they were given.
+#[derive(Debug, Drop)]
+pub enum Command {
+    /// `show NAME`
+    Show { name: String },
+    /// `ls [--flat] [FOLDER]`
+    Ls { folder: Option<String>, flat: bool },
+    /// `find TEXT`
+    Find { text: String },
+    /// `mounts`
+    Mounts,
+}
+
+/// The command with these options and plain words.
+pub(crate) fn build(verb: Verb, flags: Flags, plain: Vec<String>) -> Command
+    requires least { (form_of verb).least ≤ vec_len plain }
+    requires most { vec_len plain ≤ (form_of verb).most }
+    requires taken { only (form_of verb).flags flags ≡ flags }
+    ensures { said result ≡ record { verb = verb; flags = flags; plain = map string_bytes plain.items } }
+{
+    match verb {
+        Verb::Find => Command::Find { text: one(plain) },
+        Verb::Ls => Command::Ls {
+            folder: at_most_one(plain),
+            flat: flags.flat,
+        },
+        Verb::Mounts => Command::Mounts,
+        Verb::Show => Command::Show { name: one(plain) },
+    }
+}
+
+/// The one word.
+fn one(mut plain: Vec<String>) -> String
+    requires { vec_len plain ≡ 1 }
+    ensures { map string_bytes plain.items ≡ string_bytes result ∷ [] }
+{
+    plain.remove(0)
+}
+
+/// The word, where there is one.
+fn at_most_one(mut plain: Vec<String>) -> Option<String>
+    requires { vec_len plain ≤ 1 }
+    ensures { map string_bytes plain.items ≡ map string_bytes (option_to_list result) }
+{
+    plain.pop()
+}

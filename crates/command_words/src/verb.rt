@@ -1,0 +1,91 @@
+//! The commands' words, and what each command takes.
+
+ghost use Rattle.std.specs.Prelude.{◌≡◌};
+ghost use Rattle.command_words.specs.Forms.{form_of, verb_at, verb_with};
+
+use crate::options::{Flag, Flags};
+use audit_rules::{WordRow, find, word_table};
+
+/// What the first word asks for.
+#[derive(Clone, Copy, Debug, PartialEq, Eq)]
+pub(crate) enum Verb {
+    Find,
+    Ls,
+    Mounts,
+    Show,
+}
+
+/// How many plain words a command takes, and which options.
+#[derive(Clone, Copy, Debug, PartialEq, Eq)]
+pub(crate) struct Form {
+    pub(crate) least: usize,
+    pub(crate) most: usize,
+    pub(crate) flags: Flags,
+    /// Whether its second word is to name a subcommand. No subcommand is there.
+    pub(crate) has_subcommands: bool,
+}
+
+/// The words of the commands.
+const COMMANDS: [WordRow; 5] = word_table![
+    b"find" => 0,
+    b"list" => 1,
+    b"ls" => 1,
+    b"mounts" => 3,
+    b"show" => 2,
+];
+
+/// The command of a row of the table of words.
+fn verb_with(code: u16) -> Option<Verb>
+    ensures { result ≡ verb_with code }
+{
+    match code {
+        0 => Some(Verb::Find),
+        1 => Some(Verb::Ls),
+        2 => Some(Verb::Show),
+        3 => Some(Verb::Mounts),
+        _ => None,
+    }
+}
+
+/// The command whose word this is, or None where no command has it.
+pub(crate) fn verb_of(word: &str) -> Option<Verb>
+    ensures { result ≡ verb_at word.now }
+{
+    match find(&COMMANDS, word) {
+        Some(code) => verb_with(code),
+        None => None,
+    }
+}
+
+/// What the command takes.
+pub(crate) fn form_of(verb: Verb) -> Form
+    ensures { result ≡ form_of verb }
+{
+    let none = Flags::none();
+    match verb {
+        Verb::Find => Form {
+            least: 1,
+            most: 1,
+            flags: none,
+            has_subcommands: false,
+        },
+        Verb::Ls => Form {
+            least: 0,
+            most: 1,
+            flags: none.with(Flag::Flat),
+            has_subcommands: false,
+        },
+        Verb::Mounts => Form {
+            least: 0,
+            most: 0,
+            flags: none,
+            has_subcommands: true,
+        },
+        Verb::Show => Form {
+            least: 1,
+            most: 1,
+            flags: none,
+            has_subcommands: false,
+        },
+    }
+}
