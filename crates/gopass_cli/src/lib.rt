@@ -7,6 +7,8 @@ mod refusal;
 mod reply;
 mod run;
 mod showing;
+mod state;
 mod words;
 
 pub use run::{Ended, gopass};
+pub use state::states_of_files;
