@@ -12,11 +12,10 @@ use Rattle.std.proofs.lemmas.Bool.{and_from, not-true, lt-ltb, le-leb, ne_eqb}
 use Rattle.std.proofs.lemmas.Bool.Decides.{nat_tests}
 use Rattle.std.proofs.lemmas.List.{append_assoc, append-nil}
 use Rattle.std.proofs.lemmas.List.Elements.{All-weaker, All-append, All-head, All-tail}
-use Rattle.std.proofs.lemmas.List.Splits.{slice_split_at}
 use Rattle.std.proofs.lemmas.List.Sums.{AllPass-from_list_all}
 use Rattle.hex.specs.Hex.{IsBytes, decode_of, encode_lower, encode_with, lower_digits}
 use Rattle.hex.proofs.HexLemmas.{decode_of-encode_lower, length-encode_with}
-use Rattle.gopass_base.specs.Text.{Text, IsPrintable}
+use Rattle.gopass_base.specs.Text.{Text}
 use Rattle.recipient_files.specs.Ids.{Ids, IsId, IsRising, IsRecipients}
 use Rattle.cipher_port.specs.Tool.{Content, made_of}
 use Rattle.cipher_port.specs.StandinText.{IsStandinText, to_line}

@@ -8,9 +8,8 @@ use Rattle.std.proofs.lemmas.List.Splits.{join_with_byte-slice_split}
 use Rattle.std.proofs.lemmas.Slice.Eq.{bytes_eq-Decides}
 use Rattle.gopass_base.specs.Text.{Text}
 use Rattle.gopass_base.specs.Lines.{cut_at}
-use Rattle.recipient_files.specs.Ids.{Ids, IsId}
+use Rattle.recipient_files.specs.Ids.{Ids}
 use Rattle.cipher_port.specs.Tool.{Content, made_of}
-use Rattle.recipient_files.specs.IdText.{is_id, id_at}
 use Rattle.gopass_base.specs.Lines.{pieces_of}
 use Rattle.cipher_port.specs.Standin.{with_id, begins, is_end, digits_at, body_of, from_body, from_recipients, from_header, standin_content}
 use Rattle.cipher_port.specs.StandinReads.{Gives}

@@ -212,6 +212,16 @@ mod tests {
 
     fn is_send<T: Send>() {}
 
+    /// That a tool and what it is given and gives may go to another thread is told by the types.
+    #[test]
+    fn tools_are_send(_: HostRuntime) -> Result<(), Fail> {
+        is_send::<MemTool>();
+        is_send::<Id>();
+        is_send::<Recipients>();
+        is_send::<Sealed>();
+        Ok(())
+    }
+
     fn set(alloc: Global, texts: &[&str]) -> Result<Recipients, Fail> {
         Ok(Recipients::of(alloc, &ids(alloc, texts)?)?)
     }
@@ -224,7 +234,6 @@ mod tests {
 
     #[test]
     fn seals_for_known_ids(rt: HostRuntime) -> Result<(), Fail> {
-        is_send::<MemTool>();
         let mut tool = knowing(rt.alloc(), Vec::new(rt.alloc()))?;
         let two = set(rt.alloc(), &["alice", "bob"])?;
         let sealed = tool.seal(rt.alloc(), &two, b"pw\n")?;

@@ -9,5 +9,6 @@ pub mod RestLemmas
 pub mod OrderLemmas
 pub mod TableLemmas
 pub mod MountLemmas
+pub mod MountOfLemmas
 pub mod CleanLemmas
 pub mod LineLemmas

@@ -4,6 +4,7 @@ pub mod Prefixes
 pub mod Folders
 pub mod Paths
 pub mod Mounts
+pub mod MountOf
 pub mod MountChanges
 pub mod Lines
 pub mod MountsText

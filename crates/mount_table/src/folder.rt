@@ -68,7 +68,7 @@ impl Folder {
     }
 
     /// The folder that has this text.
-    pub(crate) fn of_text(alloc: Global, text: &str) -> Result<Folder, NameFault>
+    pub fn of_text(alloc: Global, text: &str) -> Result<Folder, NameFault>
         ensures folder { IfOk result (λ folder. folder ≡ text.now) }
         ensures good { IsOk result → IsFolder text.now }
         ensures bad { (bad : BadName) → result ≡ Err (NameFault.Bad bad) → ¬ IsFolder text.now }

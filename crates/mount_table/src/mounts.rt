@@ -5,6 +5,7 @@ ghost use Rattle.std.specs.List.{slice_set};
 ghost use Rattle.gopass_base.specs.Text.{Text};
 ghost use Rattle.mount_table.specs.Prefixes.{Holds, IsPrefix, Nest, folder_parts, rest_start};
 ghost use Rattle.mount_table.specs.Mounts.{IsRow, IsTable, IsBelow, IsMountOf, IsMountOfFolder, IsFileOf, HasAliasAt, LacksAlias, IsFirstNest, IsApart, new_row, root_of, row_at};
+ghost use Rattle.mount_table.specs.MountOf.{mount_of};
 ghost use Rattle.mount_table.specs.MountsText.{text_of, IsFirstBad};
 ghost use Rattle.mount_table.specs.MountChanges.{Adds, Removes};
 ghost use Rattle.mount_table.specs.declared.mounts.Row.{Row};
@@ -110,17 +111,17 @@ impl Mounts {
     }
 
     /// The one text of the mounts.
-    pub fn write(&self, alloc: Global) -> Result<Vec<u8>, NoMemory>
+    pub fn write(&self) -> Result<Vec<u8>, NoMemory>
         ensures { IfOk result (λ bytes. bytes.items ≡ text_of self.now) }
     {
-        text_of_rows(alloc, &self.rows)
+        text_of_rows(*self.rows.allocator(), &self.rows)
     }
 
     /// An equal table of its own.
-    pub fn copy(&self, alloc: Global) -> Result<Mounts, NoMemory>
+    pub fn copy(&self) -> Result<Mounts, NoMemory>
         ensures { IfOk result (λ mounts. mounts ≡ self.now) }
     {
-        let rows = copies_of(alloc, &self.rows)?;
+        let rows = copies_of(*self.rows.allocator(), &self.rows)?;
         Ok(Mounts { rows })
     }
 
@@ -154,9 +155,10 @@ impl Mounts {
     }
 
     /// The file of the secret: the directory of its mount, `/`, the rest of its name and `.gpg`.
-    pub fn file_of(&self, alloc: Global, name: &Name) -> Result<FilePath, NoMemory>
+    pub fn file_of(&self, name: &Name) -> Result<FilePath, NoMemory>
         ensures { IfOk result (λ path. IsFileOf self.now name.now path) }
     {
+        let alloc = *self.rows.allocator();
         let row = &self.rows[self.resolve(name).row];
         let rest = name.below(alloc, &row.alias)?;
         row.dir.file_of(alloc, &rest)
@@ -218,10 +220,12 @@ pub fn one_text()
     ensures one_bad_line { (root bytes : Text) (m n : ℕ) → IsFirstBad root bytes m → IsFirstBad root bytes n → m ≡ n }
 {}
 
-/// A name lies in one mount: aliases that hold it and have as many parts are one.
+/// A name lies in one mount, which is the one that is computed: aliases that hold it and have as many
+/// parts are one.
 pub fn one_mount()
     ensures aliases { (name a b : Text) → Holds a name → Holds b name → length (folder_parts a) ≡ length (folder_parts b) → a ≡ b }
     ensures row { (root name : Text) (rows : List Row) (j k : ℕ) → IsTable root rows → IsMountOf rows name j → IsMountOf rows name k → j ≡ k }
+    ensures computed { (root name : Text) (rows : List Row) → IsTable root rows → IsMountOf rows name (mount_of rows name) }
 {}
 
 /// The last row whose alias holds the name.
@@ -243,13 +247,13 @@ fn last_reaching(rows: &[Row], folder: &Folder) -> usize
     requires { IsTable (root_of rows.now) rows.now }
     ensures { IsMountOfFolder rows.now folder.now result }
 {
-    let mut last = 0;
+    let mut reached = 0;
     for i in 1..rows.len() {
         if rows[i].alias.reaches(folder) {
-            last = i;
+            reached = i;
         }
     }
-    last
+    reached
 }
 
 /// The row that has this alias.

@@ -196,7 +196,7 @@ fn mount_of_a_name(rt: HostRuntime) -> Result<(), Fail> {
     ] {
         let name = Name::read(rt.alloc(), name)?;
         assert_eq!(rt; mounts.resolve(&name), Place { row, from });
-        assert_eq!(rt; mounts.file_of(rt.alloc(), &name)?.text(), file);
+        assert_eq!(rt; mounts.file_of(&name)?.text(), file);
     }
     for (folder, row) in [("work/db", 2), ("work/dbx", 1), ("work", 1), ("/", 0)] {
         let folder = Folder::read(rt.alloc(), folder)?;
@@ -227,7 +227,7 @@ fn mounts_come_and_go(rt: HostRuntime) -> Result<(), Fail> {
     mounts.set_git(2);
     assert_eq!(rt; mounts.remove(&work)?.dir.text(), "w");
     assert_eq!(rt;
-        mounts.write(rt.alloc())?.as_slice(),
+        mounts.write()?.as_slice(),
         b"\troot\tplain\nwork/db\td\tgit\n".as_slice()
     );
     Ok(())
@@ -255,8 +255,8 @@ fn at_most_64_mounts(rt: HostRuntime) -> Result<(), Fail> {
 fn text_of_mounts(rt: HostRuntime) -> Result<(), Fail> {
     let root = DirPath::read(rt.alloc(), "root")?;
     let text = b"\troot\tplain\nwork\tw\tplain\nwork/db\td\tplain\n";
-    let mounts = work_mounts(&rt)?.copy(rt.alloc())?;
-    assert_eq!(rt; mounts.write(rt.alloc())?.as_slice(), text.as_slice());
+    let mounts = work_mounts(&rt)?.copy()?;
+    assert_eq!(rt; mounts.write()?.as_slice(), text.as_slice());
     for (bytes, line) in [
         (text.as_slice(), None),
         (b"\troot\tplain\nwork\tw\tplain\nwork/db\td\tplain", Some(3)),
@@ -274,5 +274,19 @@ fn text_of_mounts(rt: HostRuntime) -> Result<(), Fail> {
         let fault = line.map(|line| MountsFault::BadLine(line));
         assert_eq!(rt; Mounts::read(rt.alloc(), bytes, &root).err(), fault);
     }
+    Ok(())
+}
+
+fn is_send<T: Send>() {}
+
+/// That a store's values may go to another thread is told by the types.
+#[test]
+fn values_are_send(_: HostRuntime) -> Result<(), Fail> {
+    is_send::<Mounts>();
+    is_send::<Row>();
+    is_send::<Name>();
+    is_send::<Folder>();
+    is_send::<DirPath>();
+    is_send::<FilePath>();
     Ok(())
 }

@@ -1,6 +1,6 @@
 -- The set that a rule file names.
-use Rattle.std.proofs.Common.{◌≡◌, ◌≤◌, ℕ, Bool, true, false, cond, eqb, [], length, ◌==◌, refl, ap, sym, ◌∙◌}
-use Rattle.std.specs.Prelude.{Option, Some, None, Err}
+use Rattle.std.proofs.Common.{◌≡◌, Bool, cond, [], length, ◌==◌, ap, ◌∙◌}
+use Rattle.std.specs.Prelude.{Option, Some, None}
 use Rattle.std.specs.Option.{option_or}
 use Rattle.gopass_base.specs.Text.{Text}
 use Rattle.gopass_base.specs.Lines.{pieces_of}

@@ -1,5 +1,5 @@
 -- The lines of a rule file, one after another.
-use Rattle.std.proofs.Common.{◌≡◌, ℕ, ◌+◌, Bool, true, false, cond, not, [], ◌∷◌, refl, ap, sym, ◌∙◌}
+use Rattle.std.proofs.Common.{◌≡◌, ℕ, ◌+◌, cond, not, refl, ap, sym, ◌∙◌}
 use Rattle.std.specs.Prelude.{Option, Some, None, Err, option_map}
 use Rattle.std.specs.Option.{option_or}
 use Rattle.std.specs.Str.{IsUtf8, is_utf8}
@@ -12,7 +12,6 @@ use Rattle.recipient_files.specs.Ids.{Ids, IsId}
 use Rattle.recipient_files.specs.IdText.{is_id}
 use Rattle.recipient_files.specs.RuleText.{BadLine, bad_at, left_of, text_fault, line_fault, with_line, bad_from, ids_from}
 use Rattle.recipient_files.specs.RuleReads.{Reads}
-use Rattle.recipient_files.specs.declared.rule.RuleKind.{RuleKind}
 use Rattle.recipient_files.specs.declared.rule.RuleKind.TheVariants.{NotText, BadId}
 use Rattle.recipient_files.specs.declared.rule.RuleFault.{RuleFault}
 use Rattle.recipient_files.specs.declared.rule.RuleFault.TheVariants as rule

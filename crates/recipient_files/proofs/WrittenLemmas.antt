@@ -1,16 +1,15 @@
 -- The text that is written for a set is read as that set.
-use Rattle.std.proofs.Common.{◌≡◌, ◌≢◌, ◌≤◌, ◌+◌, ℕ, Bool, true, false, cond, ◌==◌, [], ◌∷◌, ◌++◌, length, slice_index, refl, ap, sym, ◌∙◌, subst, arith, length-append}
-use Rattle.std.specs.Prelude.{Option, Some, None, codes, All, Contains, option_map}
+use Rattle.std.proofs.Common.{◌≡◌, ◌≢◌, ◌≤◌, ◌+◌, ℕ, false, cond, ◌==◌, [], ◌∷◌, ◌++◌, length, slice_index, refl, ap, sym, ◌∙◌, subst, arith, length-append}
+use Rattle.std.specs.Prelude.{Some, None, codes, All, Contains, option_map}
 use Rattle.std.specs.Option.{option_or}
 use Rattle.std.proofs.lemmas.Bool.{ne_eqb}
 use Rattle.std.proofs.lemmas.List.{append_assoc, append-nil}
 use Rattle.std.proofs.lemmas.List.Elements.{All-head, All-tail}
 use Rattle.gopass_base.specs.Text.{Text}
-use Rattle.gopass_base.specs.Lines.{cut_at, pieces_of}
+use Rattle.gopass_base.specs.Lines.{pieces_of}
 use Rattle.gopass_base.proofs.LineLemmas.{cut_none, line_first}
-use Rattle.recipient_files.specs.Ids.{Ids, IsId, IsRecipients, IsSetOf, is_among}
-use Rattle.recipient_files.specs.RuleText.{IsRule, BadLine, bad_at, front_or, before_hash, trim_start, trim_end, left_of, text_fault, room_fault, line_fault, with_id, with_line, bad_from, ids_from, ids_of, first_bad_line, rule_text}
-use Rattle.recipient_files.specs.declared.rule.RuleKind.{RuleKind}
+use Rattle.recipient_files.specs.Ids.{Ids, IsId, IsRecipients}
+use Rattle.recipient_files.specs.RuleText.{IsRule, bad_at, front_or, trim_start, trim_end, left_of, text_fault, room_fault, line_fault, with_id, with_line, bad_from, ids_from, ids_of, rule_text}
 use Rattle.recipient_files.specs.declared.rule.RuleKind.TheVariants.{TooMany}
 use Rattle.recipient_files.proofs.IdLemmas.{one_line_id}
 use Rattle.recipient_files.proofs.TrimLemmas.{trim_done}

@@ -1,8 +1,7 @@
 -- What the readers of a rule file answer.
-use Rattle.std.specs.Prelude.{◌≡◌, ℕ, ◌≤◌, length, All, Option, Some, None, Result, Ok, Err}
-use Rattle.gopass_base.specs.Text.{Text}
+use Rattle.std.specs.Prelude.{◌≡◌, ◌≤◌, length, All, Option, Some, None, Result, Ok, Err}
 use Rattle.recipient_files.specs.Ids.{Ids, IsId}
-use Rattle.recipient_files.specs.RuleText.{BadLine, IsRule, bad_at, first_bad_line, text_fault, room_fault, line_fault, with_id, with_line}
+use Rattle.recipient_files.specs.RuleText.{BadLine, bad_at}
 use Rattle.recipient_files.specs.declared.rule.RuleKind.{RuleKind}
 use Rattle.recipient_files.specs.declared.rule.RuleFault.{RuleFault}
 use Rattle.recipient_files.specs.declared.rule.RuleFault.TheVariants as rule

@@ -2,7 +2,7 @@
 
 ghost use Rattle.std.specs.Prelude.{◌≡◌, ◌≢◌, ◌↔◌, ◌<◌, ◌≤◌, [], ◌∷◌, ◌++◌, ℕ, List, length, IsTrue, IsOk, IfOk, Err, All, Contains, MatchResult};
 ghost use Rattle.gopass_base.specs.Text.{Text};
-ghost use Rattle.recipient_files.specs.Ids.{Ids, IsId, IsSetOf, IsRecipients, without};
+ghost use Rattle.recipient_files.specs.Ids.{Ids, IsId, IsSetOf, IsRecipients, is_among, without};
 ghost use Rattle.recipient_files.specs.Changes.{Adds, Removes};
 ghost use Rattle.recipient_files.specs.RuleText.{IsRule, ids_of, first_bad_line, rule_text};
 ghost use Rattle.recipient_files.specs.RuleReads.{Reads};
@@ -123,10 +123,10 @@ impl Recipients {
     }
 
     /// The text of a rule file that names the set: a line for each id, in rising order.
-    pub fn write(&self, alloc: Global) -> Result<Vec<u8>, NoRoom>
+    pub fn write(&self) -> Result<Vec<u8>, NoRoom>
         ensures { IfOk result (λ bytes. bytes.items ≡ rule_text self.now) }
     {
-        text_of(alloc, &self.ids)
+        text_of(*self.ids.allocator(), &self.ids)
     }
 
     /// The set of ids that are in rising order of their bytes, each of them once: 1 to 64.
@@ -153,15 +153,15 @@ impl Recipients {
     }
 
     /// An equal set of its own.
-    pub fn copy(&self, alloc: Global) -> Result<Recipients, NoRoom>
+    pub fn copy(&self) -> Result<Recipients, NoRoom>
         ensures { IfOk result (λ set. set ≡ self.now) }
     {
-        let ids = copies_of(alloc, &self.ids)?;
+        let ids = copies_of(*self.ids.allocator(), &self.ids)?;
         Ok(Recipients { ids })
     }
 
     /// Adds an id. The set stays as it is where it has the id, or else 64 others.
-    pub fn add(&mut self, alloc: Global, id: &Id) -> Result<(), IdAddFault>
+    pub fn add(&mut self, id: &Id) -> Result<(), IdAddFault>
         ensures { Adds id.now self.old self.new result }
     {
         if has(&self.ids, id) {
@@ -170,7 +170,7 @@ impl Recipients {
         if self.ids.len() == MOST_IDS {
             return Err(IdAddFault::Full);
         }
-        let ids = with_one(alloc, &self.ids, id)?;
+        let ids = with_one(*self.ids.allocator(), &self.ids, id)?;
         self.ids = set_of(ids);
         Ok(())
     }
@@ -202,10 +202,17 @@ fn are_same(ids: &[Id], others: &[Id]) -> bool
     ids == others
 }
 
+/// Whether the id is one of these, as it is computed.
+pub(crate) fn is_among(ids: &[Id], id: &Id) -> bool
+    ensures { result ≡ is_among ids.now id.now }
+{
+    ids.iter().any(|one| one.text() == id.text())
+}
+
 fn has(ids: &[Id], id: &Id) -> bool
     ensures { IsTrue result ↔ Contains ids.now id.now }
 {
-    ids.iter().any(|one| one.text() == id.text())
+    is_among(ids, id)
 }
 
 fn take_out(ids: &mut Vec<Id>, id: &Id)

@@ -2,12 +2,12 @@
 
 ghost use Rattle.std.specs.Prelude.{◌≡◌, [], ℕ, option_map};
 ghost use Rattle.gopass_base.specs.Lines.{pieces_of};
-ghost use Rattle.recipient_files.specs.Ids.{IsId, is_among};
+ghost use Rattle.recipient_files.specs.Ids.{IsId};
 ghost use Rattle.recipient_files.specs.RuleText.{before_hash, trim_start, trim_end, left_of, text_fault, room_fault, line_fault, with_id, with_line, bad_at, bad_from, ids_from};
 ghost use Rattle.recipient_files.specs.RuleReads.{Reads, ReadsLine, IsSoFar};
 ghost use Rattle.recipient_files.specs.declared.rule.LineFault.TheVariants.{NoMemory};
 
-use crate::recipients::MOST_IDS;
+use crate::recipients::{MOST_IDS, is_among};
 use crate::{Id, IdFault};
 use gopass_base::cut;
 use std::alloc::{AllocFailed, Global};
@@ -108,12 +108,6 @@ fn add_id(ids: &mut Vec<Id>, id: Id) -> Result<(), LineFault>
     }
     ids.push(id)?;
     Ok(())
-}
-
-fn is_among(ids: &[Id], id: &Id) -> bool
-    ensures { result ≡ is_among ids.now id.now }
-{
-    ids.iter().any(|one| one.text() == id.text())
 }
 
 fn read_id(alloc: Global, bytes: &[u8]) -> Result<Id, LineFault>

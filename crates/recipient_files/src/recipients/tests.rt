@@ -33,7 +33,7 @@ fn numbered_file(alloc: Global, count: u8) -> Result<String, Fail> {
 
 /// What is written for what is read, or the first bad line.
 fn again(alloc: Global, bytes: &[u8]) -> Result<Vec<u8>, RuleFault> {
-    match Recipients::read(alloc, bytes)?.write(alloc) {
+    match Recipients::read(alloc, bytes)?.write() {
         Ok(text) => Ok(text),
         Err(NoRoom) => Err(RuleFault::NoMemory),
     }
@@ -113,19 +113,16 @@ fn a_set_has_1_to_64_ids(rt: HostRuntime) -> Result<(), Fail> {
 #[test]
 fn ids_are_added_and_taken_out(rt: HostRuntime) -> Result<(), Fail> {
     let mut set = Recipients::of(rt.alloc(), &ids(rt.alloc(), &["bob"])?)?;
-    let kept = set.copy(rt.alloc())?;
+    let kept = set.copy()?;
     let alice = Id::read(rt.alloc(), "alice")?;
     let bob = Id::read(rt.alloc(), "bob")?;
-    assert_eq!(rt; set.add(rt.alloc(), &bob), Err(IdAddFault::Already));
+    assert_eq!(rt; set.add(&bob), Err(IdAddFault::Already));
     assert_eq!(rt; set.remove(&alice), Err(IdRemoveFault::Absent));
     assert_eq!(rt; set.remove(&bob), Err(IdRemoveFault::Last));
     assert!(rt; set.same(&kept));
-    assert_eq!(rt; set.add(rt.alloc(), &alice), Ok(()));
+    assert_eq!(rt; set.add(&alice), Ok(()));
     assert!(rt; !set.same(&kept));
-    assert_eq!(rt;
-        set.write(rt.alloc())?.as_slice(),
-        b"alice\nbob\n".as_slice()
-    );
+    assert_eq!(rt; set.write()?.as_slice(), b"alice\nbob\n".as_slice());
     assert_eq!(rt; set.remove(&alice), Ok(()));
     assert!(rt; set.same(&kept));
     Ok(())
@@ -135,9 +132,19 @@ fn ids_are_added_and_taken_out(rt: HostRuntime) -> Result<(), Fail> {
 fn a_full_set_takes_no_more(rt: HostRuntime) -> Result<(), Fail> {
     let mut set = Recipients::of(rt.alloc(), &numbered(rt.alloc(), 64)?)?;
     let more = Id::read(rt.alloc(), "more")?;
-    assert_eq!(rt; set.add(rt.alloc(), &more), Err(IdAddFault::Full));
+    assert_eq!(rt; set.add(&more), Err(IdAddFault::Full));
     let there = Id::read(rt.alloc(), "id-00")?;
-    assert_eq!(rt; set.add(rt.alloc(), &there), Err(IdAddFault::Already));
+    assert_eq!(rt; set.add(&there), Err(IdAddFault::Already));
     assert_eq!(rt; set.ids().len(), 64);
+    Ok(())
+}
+
+fn is_send<T: Send>() {}
+
+/// That a set may go to another thread is told by the types.
+#[test]
+fn sets_are_send(_: HostRuntime) -> Result<(), Fail> {
+    is_send::<Recipients>();
+    is_send::<Id>();
     Ok(())
 }

@@ -1,7 +1,7 @@
-use Rattle.std.proofs.Common.{◌≡◌, ◌≤◌, length, rules, ap, ◌∙◌, arith}
+use Rattle.std.proofs.Common.{◌≤◌, length, ap, ◌∙◌, arith}
 use Rattle.hex.specs.Hex.{IsBytes}
 use Rattle.cipher_port.specs.Tool.{made_of}
-use Rattle.cipher_port.specs.StandinText.{IsStandinText, standin_text}
+use Rattle.cipher_port.specs.StandinText.{standin_text}
 use Rattle.cipher_port.specs.StandinLaws.{text_short}
 use Rattle.cipher_port.proofs.StandinAgain.{content_again}
 use Rattle.cipher_port.proofs.standin.standin_write.Goals as goal

@@ -4,4 +4,4 @@ use Rattle.mount_table.proofs.MountLemmas.{IsLast}
 use Rattle.mount_table.proofs.mounts.last_reaching.Given as goal
 
 abbrev pub invariant-loop-i : goal.invariant-loop-i
-invariant-loop-i l = IsLast (λ (row : Row). IsPrefix (folder_parts row.alias) (folder_parts l.folder)) l.rows l.last l.i
+invariant-loop-i l = IsLast (λ (row : Row). IsPrefix (folder_parts row.alias) (folder_parts l.folder)) l.rows l.reached l.i

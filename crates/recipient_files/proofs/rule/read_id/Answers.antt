@@ -1,6 +1,5 @@
 use Rattle.std.proofs.Common.{◌∙◌, ap, sym, subst, refl}
 use Rattle.std.specs.Prelude.{Err}
-use Rattle.std.specs.Str.{IsUtf8}
 use Rattle.recipient_files.specs.Ids.{IsId}
 use Rattle.recipient_files.proofs.RuleLemmas.{not_text, good_text, bad_text}
 use Rattle.recipient_files.proofs.rule.read_id.Goals as goal

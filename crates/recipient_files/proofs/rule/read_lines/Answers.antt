@@ -1,4 +1,4 @@
-use Rattle.std.proofs.Common.{◌≡◌, [], ◌∙◌, ap, sym, subst, refl, length, Vec, Global, arith}
+use Rattle.std.proofs.Common.{◌≡◌, [], ◌∙◌, sym, Vec, Global, arith}
 use Rattle.std.specs.Prelude.{Some, None, option_map}
 use Rattle.std.proofs.lemmas.Result.{err_from_is_err_and}
 use Rattle.gopass_base.specs.Lines.{pieces_of}

@@ -1,4 +1,4 @@
-use Rattle.std.proofs.Common.{◌≡◌, ◌≢◌, ◌-◌, ◌∙◌, ℕ, length, get_or, sym, arith}
+use Rattle.std.proofs.Common.{◌≡◌, ◌≢◌, ◌-◌, ◌∙◌, length, get_or, sym, arith}
 use Rattle.recipient_files.proofs.TrimLemmas.{trim_more, trim_done}
 use Rattle.recipient_files.proofs.rule.trim_end.Goals as goal
 

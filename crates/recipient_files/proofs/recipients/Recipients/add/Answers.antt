@@ -1,4 +1,4 @@
-use Rattle.std.proofs.Common.{◌≡◌, ◌<◌, ◌≤◌, ◌++◌, [], ◌∷◌, length, rules, sym, subst, arith}
+use Rattle.std.proofs.Common.{◌≤◌, ◌++◌, [], ◌∷◌, length, rules, arith}
 use Rattle.recipient_files.specs.Ids.{IsRecipients, IsSetOf}
 use Rattle.recipient_files.proofs.SetLemmas.{recipients_with}
 use Rattle.recipient_files.proofs.recipients.Recipients.add.Goals as goal

@@ -1,9 +1,9 @@
-use Rattle.std.proofs.Common.{◌≡◌, ◌≢◌, ◌≤◌, ◌==◌, true, false, [], ◌∙◌, length, ap, sym, subst, rules, arith, Vec, Global}
+use Rattle.std.proofs.Common.{◌≡◌, ◌≢◌, ◌≤◌, true, false, [], ◌∙◌, length, ap, sym, subst, arith, Vec, Global}
 use Rattle.std.proofs.lemmas.Bool.{eq-eqb, ne_eqb}
 use Rattle.std.proofs.lemmas.Bool.Decides.{nat_tests}
 use Rattle.std.proofs.lemmas.Result.{err_from_is_err_and}
 use Rattle.gopass_base.specs.Lines.{pieces_of}
-use Rattle.recipient_files.specs.Ids.{Ids, IsSetOf, IsRecipients}
+use Rattle.recipient_files.specs.Ids.{Ids, IsSetOf}
 use Rattle.recipient_files.specs.RuleText.{bad_from, ids_from, ids_of, first_bad_line}
 use Rattle.recipient_files.specs.RuleReads.{IsSoFar}
 use Rattle.recipient_files.specs.declared.id.Id.{Id}

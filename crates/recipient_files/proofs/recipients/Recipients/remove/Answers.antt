@@ -1,5 +1,5 @@
-use Rattle.std.proofs.Common.{◌<◌, length, rules, sym, subst, arith}
-use Rattle.recipient_files.specs.Ids.{IsRecipients, without}
+use Rattle.std.proofs.Common.{sym, subst, arith}
+use Rattle.recipient_files.specs.Ids.{IsRecipients}
 use Rattle.recipient_files.proofs.SetLemmas.{recipients_without}
 use Rattle.recipient_files.proofs.recipients.Recipients.remove.Goals as goal
 
