@@ -1,0 +1,25 @@
+-- What is answered where a rule comes or goes.
+use Rattle.std.specs.Prelude.{◌≡◌, ◌⊎◌, ◌<◌, ◌≤◌, None, Some, Result, Ok, Err}
+use Rattle.std.specs.FinMap as map
+use Rattle.gopass_base.specs.Text.{Text}
+use Rattle.recipient_files.specs.Ids.{Ids}
+use Rattle.path_rules.specs.RuleMap.{RuleMap, rule_at, HasRule}
+use Rattle.path_rules.specs.declared.rules.RulesFault.{RulesFault}
+use Rattle.path_rules.specs.declared.rules.RulesFault.TheVariants.{Full, NoMemory}
+use Rattle.path_rules.specs.declared.rules.Absent.{Absent}
+
+-- the folder has a rule, or fewer than 512 folders have one
+abbrev pub HasRoom : RuleMap → Text → Type 0
+HasRoom rules folder = HasRule rules folder ⊎ (map.len rules < 512)
+
+-- the folder gets the rule, and no other folder's changes; all stay as they are where 512 others have one, and where
+-- there is no memory
+abbrev pub Sets : Text → Ids → (old new : RuleMap) → Result (Unit {0}) RulesFault → Type 0
+Sets folder ids old new (Ok done) = HasRoom old folder × (new ≡ map.insert old folder ids)
+Sets folder ids old new (Err Full) = (rule_at old folder ≡ None) × (512 ≤ map.len old) × (new ≡ old)
+Sets folder ids old new (Err NoMemory) = HasRoom old folder × (new ≡ old)
+
+-- the folder's rule goes and is handed over, and no other folder's changes; all stay where it has none
+abbrev pub Unsets : Text → (old new : RuleMap) → Result Ids Absent → Type 0
+Unsets folder old new (Ok ids) = (rule_at old folder ≡ Some ids) × (new ≡ map.remove old folder)
+Unsets folder old new (Err absent) = (rule_at old folder ≡ None) × (new ≡ old)

@@ -1,0 +1,4 @@
+pub mod RuleMap
+pub mod Changes
+pub mod Governing
+pub mod Affected

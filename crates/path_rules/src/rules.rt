@@ -1,0 +1,159 @@
+//! The rules of a store: folders, and the recipients of what is below each.
+
+ghost use Rattle.std.specs.Prelude.{◌≡◌, ◌<◌, ℕ, List, length, None, Some, option_map, IfOk, MatchOption};
+ghost use Rattle.std.specs.FinMap as map;
+ghost use Rattle.mount_table.specs.Names.{parts};
+ghost use Rattle.mount_table.specs.NameFaults.{start_of};
+ghost use Rattle.path_rules.specs.RuleMap.{RuleMap, rule_at};
+ghost use Rattle.path_rules.specs.Changes.{Sets, Unsets};
+ghost use Rattle.path_rules.specs.Governing.{Governs, governing_below, IsPartStart};
+ghost use Rattle.path_rules.specs.declared.rules.RulesFault.TheVariants.{NoMemory};
+
+use crate::entries::{Spot, copies_of_folders, copies_of_sets, make_room, put_in, spot_of};
+use crate::governing::nearest;
+use gopass_base::NoMemory as NoRoom;
+use mount_table::{Folder, Name, Place};
+use recipient_files::Recipients;
+use std::alloc::{AllocError, Global};
+use std::marker::Model;
+
+/// The most folders that have a rule.
+const MOST_RULES: usize = 512;
+
+/// Why a rule is not set.
+#[derive(Clone, Copy, Debug, PartialEq, Eq)]
+pub enum RulesFault {
+    /// 512 other folders have a rule.
+    Full,
+    NoMemory,
+}
+
+impl From<NoRoom> for RulesFault {
+    ghost from_gives = { λ _ e. e ≡ NoMemory };
+
+    fn from(_: NoRoom) -> Self {
+        RulesFault::NoMemory
+    }
+}
+
+impl From<AllocError> for RulesFault {
+    ghost from_gives = { λ _ e. e ≡ NoMemory };
+
+    fn from(_: AllocError) -> Self {
+        RulesFault::NoMemory
+    }
+}
+
+/// The folder has no rule.
+#[derive(Clone, Copy, Debug, PartialEq, Eq)]
+pub struct Absent;
+
+/// Rules, which contracts see as a finite map from folders to sets of ids. The k-th set is that of
+/// the k-th folder.
+#[derive(Debug, Drop)]
+pub struct Rules {
+    folders: Vec<Folder>,
+    sets: Vec<Recipients>,
+}
+
+impl Model for Rules {
+    ghost use Rattle.std.specs.Coded.{coded_ℕ, coded_list};
+    ghost use Rattle.std.specs.FinMap as map;
+    ghost use Rattle.path_rules.specs.RuleMap.{RuleMap, AreEntries, map_of};
+
+    ghost Value = { RuleMap };
+
+    ghost coded = { map.code (coded_list coded_ℕ) (coded_list (coded_list coded_ℕ)) };
+
+    ghost view = { λ rules. map_of rules.folders.items rules.sets.items };
+
+    ghost invariant = { λ rules. AreEntries rules.folders.items rules.sets.items };
+}
+
+impl Rules {
+    /// No rules.
+    pub fn new(alloc: Global) -> Rules
+        ensures { result ≡ map.empty }
+    {
+        Rules {
+            folders: Vec::new(alloc),
+            sets: Vec::new(alloc),
+        }
+    }
+
+    /// Gives the folder this rule, in place of the one that it has. The rules stay as they are where
+    /// it has none and 512 others have one, and where there is no memory.
+    pub fn set(&mut self, folder: &Folder, ids: Recipients) -> Result<(), RulesFault>
+        ensures { Sets folder.now ids self.old self.new result }
+    {
+        match spot_of(&self.folders, folder.text().as_bytes()) {
+            Spot::At(index) => {
+                self.sets[index] = ids;
+                Ok(())
+            }
+            Spot::Before(index) => {
+                if self.folders.len() >= MOST_RULES {
+                    return Err(RulesFault::Full);
+                }
+                let folder = make_room(&mut self.folders, &mut self.sets, folder)?;
+                put_in(&mut self.folders, &mut self.sets, index, folder, ids);
+                Ok(())
+            }
+        }
+    }
+
+    /// Takes the folder's rule away, and gives it. Nothing is allocated.
+    pub fn unset(&mut self, folder: &Folder) -> Result<Recipients, Absent>
+        ensures { Unsets folder.now self.old self.new result }
+    {
+        match spot_of(&self.folders, folder.text().as_bytes()) {
+            Spot::At(index) => {
+                let _ = self.folders.remove(index);
+                Ok(self.sets.remove(index))
+            }
+            Spot::Before(_) => Err(Absent),
+        }
+    }
+
+    /// The folder's rule, where it has one. Nothing is allocated.
+    pub fn at(&self, folder: &Folder) -> Option<&Recipients>
+        ensures { option_map (λ set. set.now) result ≡ rule_at self.now folder.now }
+    {
+        match spot_of(&self.folders, folder.text().as_bytes()) {
+            Spot::At(index) => Some(&self.sets[index]),
+            Spot::Before(_) => None,
+        }
+    }
+
+    /// The folders that have a rule, by the bytes of their texts.
+    pub fn folders(&self) -> &[Folder]
+        ensures { result.now ≡ map.keys self.now }
+    {
+        &self.folders
+    }
+
+    /// Equal rules of their own.
+    pub fn copy(&self) -> Result<Rules, NoRoom>
+        ensures { IfOk result (λ rules. rules ≡ self.now) }
+    {
+        let alloc = *self.folders.allocator();
+        Ok(Rules {
+            folders: copies_of_folders(alloc, &self.folders)?,
+            sets: copies_of_sets(alloc, &self.sets)?,
+        })
+    }
+
+    /// The rule that governs the secret: that of the longest folder that holds the name and has at
+    /// least the parts of the alias of its mount, which end where `place.from` is. At each part of
+    /// the name one folder is looked up, and nothing is allocated.
+    pub fn governing(&self, name: &Name, place: &Place) -> Option<&Recipients>
+        requires { IsPartStart name.now place.now.from }
+        ensures rule { (least : ℕ) → least < length (parts name.now) → place.now.from ≡ start_of (parts name.now) least
+            → option_map (λ set. set.now) result ≡ governing_below self.now least name.now }
+        ensures longest { (least : ℕ) → least < length (parts name.now) → place.now.from ≡ start_of (parts name.now) least
+            → Governs self.now least name.now (option_map (λ set. set.now) result) }
+    {
+        let index = nearest(&self.folders, &self.sets, name, place.from)?;
+        Some(&self.sets[index])
+    }
+}
