@@ -74,6 +74,13 @@ fn show_refuses(rt: HostRuntime) -> Result<(), Fail> {
                 "gopass: nope is not in the store\n",
             ),
             (&["show", "web/"], 2, "", "gopass: bad name at 4: web/\n"),
+            (
+                &["show", "--", "-x"],
+                3,
+                "",
+                "gopass: -x is not in the store\n",
+            ),
+            (&["show", "a/.b"], 2, "", "gopass: bad name at 2: a/.b\n"),
             (&["show", "u"], 8, "", "gopass: u: not sealed\n"),
             (&["show", "o"], 8, "", "gopass: o: no key\n"),
             (&["show", "-"], 3, "", "gopass: - is not in the store\n"),
@@ -92,6 +99,10 @@ fn other_words_are_bad(rt: HostRuntime) -> Result<(), Fail> {
             (&["show"], 2, "", "gopass: bad words at 1\n"),
             (&["show", "-x"], 2, "", "gopass: bad words at 1\n"),
             (&["show", "e", "e"], 2, "", "gopass: bad words at 2\n"),
+            (&["show", "e", "--", "e"], 2, "", "gopass: bad words at 3\n"),
+            (&["show", "--"], 2, "", "gopass: bad words at 2\n"),
+            (&["show", "--flat", "e"], 2, "", "gopass: bad words at 1\n"),
+            (&["show", "e", "--flat"], 2, "", "gopass: bad words at 2\n"),
         ],
     )
 }

@@ -1,21 +1,24 @@
 -- From what a step says to what the run says.
 use Rattle.std.proofs.Common.{◌≡◌, ◌≢◌, ◌≤◌, ◌∙◌, ℕ, inl, inr, refl, sym, ap, subst, arith}
-use Rattle.std.specs.Prelude.{Option, Some, None, Err}
+use Rattle.std.specs.Prelude.{Option, Some, None, Err, String}
+use Rattle.std.proofs.Common.{Global}
 use Rattle.gopass_base.specs.Text.{Text}
 use Rattle.gopass_base.specs.Faults.{Rose}
 use Rattle.mount_table.specs.Names.{IsName}
 use Rattle.cipher_port.specs.Tool.{Ring}
 use Rattle.gopass_cli.specs.declared.refusal.Refusal.{Refusal}
 use Rattle.gopass_cli.specs.declared.refusal.Refusal.TheVariants.{BadWords, BadName, BadFile, NotFound, NoKey, NotSealed, Tool, Disk, NoMemory}
+use Rattle.command_words.specs.declared.command.Command.{Command}
+use Rattle.command_words.specs.declared.command.Command.TheVariants.{Show, Ls, Find, Mounts}
 use Rattle.gopass_cli.specs.State.{State}
 use Rattle.gopass_cli.specs.Said.{Said, Plan, refused, unsaid}
-use Rattle.gopass_cli.specs.Texts.{bad_line}
+use Rattle.gopass_cli.specs.Texts.{bad_line, bad_words}
 use Rattle.gopass_cli.specs.Refusals.{refusal_said}
 use Rattle.gopass_cli.specs.Replies.{Says}
 use Rattle.gopass_cli.specs.Events.{Events, calm, Cause, TheDisk, Memory, Moment, IsTied, Performs, cut, stop_said}
 use Rattle.gopass_cli.specs.Found.{Opened}
 use Rattle.gopass_cli.specs.Show.{plan_show}
-use Rattle.gopass_cli.specs.Run.{Runs, UpTo, SaysOfWord, SaysOpened}
+use Rattle.gopass_cli.specs.Run.{Runs, UpTo, SaysOfWord, SaysOpened, SaysOfCommand}
 
 stopped_by_memory : (old new : Moment) → IsTied old new calm (Some Memory)
 stopped_by_memory old new = record { refused = λ name e. absurd (cc); stopped = λ e. absurd (cc) }
@@ -48,6 +51,20 @@ module _ (S : Events → Said → Type 0) (old new : Moment) where
   pub runs_disk : (said : Said) → Rose old.disk_faults new.disk_faults → Says (stop_said TheDisk) said → Runs S old new said
   runs_disk said rose (inl e) = record { events = calm; stop = Some TheDisk; tied = record { refused = λ name e. absurd (cc); stopped = λ e. rose }; says = e }
   runs_disk said rose (inr e) = runs_unsaid said e
+
+-- a command that is read and not built yet
+pub says_unbuilt : (command : Command) (there : Option Text) (ring : Ring) (state : State) (events : Events) (said : Said) → ((name : String Global) → command ≢ Show name) → said ≡ refused 2 (bad_words 0) → SaysOfCommand command there ring state events said
+says_unbuilt (Show name) there ring state events said other e = absurd (other name refl)
+says_unbuilt (Ls folder flat) there ring state events said other e = e
+says_unbuilt (Find text) there ring state events said other e = e
+says_unbuilt Mounts there ring state events said other e = e
+
+pub runs_weaker : (S S' : Events → Said → Type 0) (old new : Moment) (said : Said) → ((events : Events) → S events said → S' events said) → Runs S old new said → Runs S' old new said
+runs_weaker S S' old new said more r = record { events = r.events; stop = r.stop; tied = r.tied; says = by r.stop r.says }
+  where
+    by : (stop : Option Cause) → UpTo stop (S r.events said) said → UpTo stop (S' r.events said) said
+    by None h = more r.events h
+    by (Some cause) h = h
 
 -- a count that rose in a part of the time rose in all of it
 pub rose_later : (before between now : ℕ) → before ≤ between → Rose between now → Rose before now

@@ -1,4 +1,3 @@
-pub mod Words
 pub mod State
 pub mod Said
 pub mod Texts

@@ -8,7 +8,6 @@ mod reply;
 mod run;
 mod showing;
 mod state;
-mod words;
 
 pub use run::{Ended, gopass};
 pub use state::states_of_files;
