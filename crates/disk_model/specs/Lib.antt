@@ -2,3 +2,4 @@ pub mod Files
 pub mod Disk
 pub mod Answers
 pub mod Entries
+pub mod Listing

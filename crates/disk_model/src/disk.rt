@@ -4,9 +4,10 @@ ghost use Rattle.std.specs.Prelude.{◌≡◌, ℕ, IfOk, Err};
 ghost use Rattle.gopass_base.specs.Faults.{HasCause};
 ghost use Rattle.disk_model.specs.Disk.{View, DiskMeaning, Rests};
 ghost use Rattle.disk_model.specs.Answers.{Reads, IsWithin};
+ghost use Rattle.disk_model.specs.Listing.{Lists, IsShort};
 ghost use Rattle.disk_model.specs.declared.disk.DiskFault.TheVariants.{Failed as failed, NoMemory as no_memory};
 
-use gopass_base::Failed;
+use gopass_base::{Failed, NoMemory};
 use mount_table::FilePath;
 use std::alloc::{AllocError, AllocFailed};
 
@@ -23,6 +24,14 @@ impl From<Failed> for DiskFault {
 
     fn from(_: Failed) -> Self {
         DiskFault::Failed
+    }
+}
+
+impl From<NoMemory> for DiskFault {
+    ghost from_gives = { λ _ e. e ≡ no_memory };
+
+    fn from(_: NoMemory) -> Self {
+        DiskFault::NoMemory
     }
 }
 
@@ -45,10 +54,32 @@ pub enum Got {
     Long,
 }
 
+/// What a listing finds.
+#[derive(Debug, Drop)]
+pub enum Listed {
+    /// The paths in rising order of their bytes.
+    All(Vec<FilePath>),
+    /// There are more paths than were asked for.
+    Many,
+}
+
 /// A disk of files, each under its path.
 pub trait Disk {
     /// What the disk means. The clauses on content hold where it tells its content.
     ghost meaning: { DiskMeaning Self };
+
+    /// Asks that no other program changes the files from now on. It changes nothing.
+    fn hold(&mut self) -> Result<(), DiskFault>
+        ensures rests { meaning.tells → Rests (meaning.view self.old) (meaning.view self.new) }
+        ensures cause { HasCause (meaning.faults self.old) (meaning.faults self.new) (result ≡ Err DiskFault.Failed) };
+
+    /// The paths of all files below the directory, but those with a part `.git` behind the
+    /// directory's, where there are at most `max`. It changes nothing.
+    fn list(&mut self, dir: &FilePath, max: usize) -> Result<Listed, DiskFault>
+        ensures rests { meaning.tells → Rests (meaning.view self.old) (meaning.view self.new) }
+        ensures listed { IfOk result (λ listed. meaning.tells → Lists (meaning.view self.old).files dir.now max listed) }
+        ensures bound { IfOk result (IsShort max) }
+        ensures cause { HasCause (meaning.faults self.old) (meaning.faults self.new) (result ≡ Err DiskFault.Failed) };
 
     /// The file under the path, where it has at most `max` bytes. It changes nothing.
     fn read(&mut self, path: &FilePath, max: usize) -> Result<Got, DiskFault>

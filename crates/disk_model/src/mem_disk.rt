@@ -6,10 +6,12 @@ ghost use Rattle.gopass_base.specs.Faults.{HasCause};
 ghost use Rattle.gopass_base.specs.Calls.{no_calls, next_calls};
 ghost use Rattle.disk_model.specs.Disk.{Rests, shows};
 ghost use Rattle.disk_model.specs.Answers.{Reads, IsWithin};
+ghost use Rattle.disk_model.specs.Listing.{Lists, IsShort};
 ghost use Rattle.disk_model.specs.Entries.{entries_of, files_of, is_rising};
 
 use crate::entries::{find, put_file};
-use crate::{Disk, DiskFault, Got};
+use crate::listing::list;
+use crate::{Disk, DiskFault, Got, Listed};
 use gopass_base::{CallLog, NoMemory};
 use mount_table::FilePath;
 use std::alloc::Global;
@@ -88,6 +90,29 @@ impl MemDisk {
 impl Disk for MemDisk {
     ghost meaning = { record { tells = Unit {0}; view = λ disk. shows (files_of disk.entries); faults = λ disk. disk.calls.faults } };
 
+    fn hold(&mut self) -> Result<(), DiskFault>
+        ensures entries { self.new.entries ≡ self.old.entries }
+        ensures calls { self.new.calls ≡ next_calls self.old.calls }
+        ensures fails { result ≡ Err DiskFault.Failed ↔ Contains self.old.calls.failing self.old.calls.made }
+        ensures rests { Unit {0} → Rests (shows (files_of self.old.entries)) (shows (files_of self.new.entries)) }
+        ensures cause { HasCause self.old.calls.faults self.new.calls.faults (result ≡ Err DiskFault.Failed) }
+    {
+        Ok(self.calls.call()?)
+    }
+
+    fn list(&mut self, dir: &FilePath, max: usize) -> Result<Listed, DiskFault>
+        ensures entries { self.new.entries ≡ self.old.entries }
+        ensures calls { self.new.calls ≡ next_calls self.old.calls }
+        ensures fails { result ≡ Err DiskFault.Failed ↔ Contains self.old.calls.failing self.old.calls.made }
+        ensures rests { Unit {0} → Rests (shows (files_of self.old.entries)) (shows (files_of self.new.entries)) }
+        ensures listed { IfOk result (λ listed. Unit {0} → Lists (files_of self.old.entries) dir.now max listed) }
+        ensures bound { IfOk result (IsShort max) }
+        ensures cause { HasCause self.old.calls.faults self.new.calls.faults (result ≡ Err DiskFault.Failed) }
+    {
+        self.calls.call()?;
+        Ok(list(*self.files.allocator(), &self.files, dir, max)?)
+    }
+
     fn read(&mut self, path: &FilePath, max: usize) -> Result<Got, DiskFault>
         ensures entries { self.new.entries ≡ self.old.entries }
         ensures calls { self.new.calls ≡ next_calls self.old.calls }
@@ -145,6 +170,68 @@ mod tests {
         }
         assert!(rt; matches!(disk.read(&two, 2), Ok(Got::Long)));
         assert!(rt; matches!(disk.read(&path(&rt, "r")?, 3), Ok(Got::Absent)));
+        assert_eq!(rt; disk.steps(), 3);
+        Ok(())
+    }
+
+    /// The paths of a listing, each with a line feed behind it, or `many`.
+    fn listed(rt: &HostRuntime, disk: &mut MemDisk, dir: &str, max: usize) -> Result<String, Fail> {
+        let mut texts = String::new(rt.alloc());
+        match disk.list(&path(rt, dir)?, max)? {
+            Listed::Many => texts.push_str("many")?,
+            Listed::All(paths) => {
+                for path in &paths {
+                    texts.push_str(path.text())?;
+                    texts.push('\n')?;
+                }
+            }
+        }
+        Ok(texts)
+    }
+
+    #[test]
+    fn a_listing_has_the_paths_below_a_directory(rt: HostRuntime) -> Result<(), Fail> {
+        let mut files = Vec::new(rt.alloc());
+        for text in [
+            "r/b",
+            "r/a/x",
+            "r/a.b",
+            "rr/c",
+            "r",
+            "r/.git/d",
+            "r/a/.git/e",
+            "r/a/.gitx",
+            "r/.a",
+        ] {
+            files.push((path(&rt, text)?, Vec::new(rt.alloc())))?;
+        }
+        let mut disk = MemDisk::new(rt.alloc(), files)?;
+        for (dir, max, paths) in [
+            ("r", 9, "r/.a\nr/a.b\nr/a/.gitx\nr/a/x\nr/b\n"),
+            ("r", 5, "r/.a\nr/a.b\nr/a/.gitx\nr/a/x\nr/b\n"),
+            ("r", 4, "many"),
+            ("r/a", 2, "r/a/.gitx\nr/a/x\n"),
+            ("r/.git", 1, "r/.git/d\n"),
+            ("r/b", 0, ""),
+            ("q", 0, ""),
+        ] {
+            assert_eq!(rt;
+                listed(&rt, &mut disk, dir, max)?.as_str(),
+                paths,
+                "{dir} {max}"
+            );
+        }
+        assert_eq!(rt; disk.steps(), 7);
+        Ok(())
+    }
+
+    #[test]
+    fn to_hold_is_a_call(rt: HostRuntime) -> Result<(), Fail> {
+        let mut disk = disk(&rt)?;
+        disk.fail_at(vec![in rt.alloc(); 1u64]?);
+        assert_eq!(rt; disk.hold(), Ok(()));
+        assert_eq!(rt; disk.hold(), Err(DiskFault::Failed));
+        assert!(rt; matches!(disk.list(&path(&rt, "r")?, 3), Ok(Listed::All(_))));
         assert_eq!(rt; disk.steps(), 3);
         Ok(())
     }
