@@ -10,5 +10,6 @@ pub mod OrderLemmas
 pub mod TableLemmas
 pub mod MountLemmas
 pub mod MountOfLemmas
+pub mod TextLemmas
 pub mod CleanLemmas
 pub mod LineLemmas

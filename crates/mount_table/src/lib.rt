@@ -14,6 +14,7 @@ pub use folder::Folder;
 pub use mounts::{AddFault, Mounts, NotMounted, Place, Row};
 pub use mounts_text::MountsFault;
 pub use name::{BadName, Name, NameFault, NameKind};
+pub use part::parts_of_texts;
 pub use path::{DirPath, FilePath, PathFault};
 pub use service::ServiceFile;
 

@@ -1,6 +1,8 @@
 //! What names and paths ask of their parts.
 
-ghost use Rattle.std.specs.Prelude.{◌≡◌, ◌↔◌, ℕ, IsTrue, length};
+ghost use Rattle.std.specs.Prelude.{◌≡◌, ◌≢◌, ◌↔◌, ◌≤◌, ℕ, List, IsTrue, All, length};
+ghost use Rattle.std.specs.List.{join_with_byte};
+ghost use Rattle.gopass_base.specs.Text.{Text};
 ghost use Rattle.mount_table.specs.Names.{parts, IsHidden, IsSealedName};
 ghost use Rattle.mount_table.specs.Prefixes.{IsPrefix};
 
@@ -31,3 +33,10 @@ pub(crate) fn is_prefix(outer: &[u8], inner: &[u8]) -> bool
         None => false,
     }
 }
+
+/// A text and its parts give each other back: with a slash between them the parts are the text, and
+/// parts without a slash are those of the text that they make.
+pub fn parts_of_texts()
+    ensures text { (text : Text) → join_with_byte 47 (parts text) ≡ text }
+    ensures parts { (texts : List Text) → 1 ≤ length texts → All (λ part. All (λ b. b ≢ 47) part) texts → parts (join_with_byte 47 texts) ≡ texts }
+{}
