@@ -84,7 +84,7 @@ exact a b e = exact_bytes a b (equal (slice_cmp nat_cmp a b) e)
 
 -- ---- a path that lies in a directory
 
-rest_is : (dir path rest : Text) → rest_in dir path ≡ Some rest → path ≡ dir ++ 47 ∷ rest
+pub rest_is : (dir path rest : Text) → rest_in dir path ≡ Some rest → path ≡ dir ++ 47 ∷ rest
 rest_is [] [] rest e = absurd (cc)
 rest_is [] (c ∷ path) rest e = elim (c == 47) as (λ t. c == 47 ≡ t → (if t then Some path else None) ≡ Some rest → c ∷ path ≡ 47 ∷ rest) [
   | true ↦ λ t e. (let same : path ≡ rest = cc in λ i. (Decides-eqb c 47).0 t i ∷ same i)

@@ -49,27 +49,33 @@ has_kept p (x ∷ xs) q on has = elim (p x) as (λ t. p x ≡ t → Contains (co
     differs true e f = cc
     differs false e f = cc
 
--- a file is there without the service names exactly where it is there and is none of them
-there_without : (root : Text) (files : Files) (path : Text) → IsThere (without_service root files) path → (not (is_service root path) ≡ true) × IsThere files path
-there_without root files path (bytes, is) = elim (is_service root path) as (λ t. (if t then None else files path) ≡ Some bytes → (not t ≡ true) × IsThere files path) [
+-- the files but those for whose paths the test is true
+abbrev pub hiding : (Text → Bool) → Files → Files
+hiding test files path = if test path then None else files path
+
+there_hiding : (test : Text → Bool) (files : Files) (path : Text) → IsThere (hiding test files) path → (not (test path) ≡ true) × IsThere files path
+there_hiding test files path (bytes, is) = elim (test path) as (λ t. (if t then None else files path) ≡ Some bytes → (not t ≡ true) × IsThere files path) [
   | true ↦ λ is. absurd (cc)
   | false ↦ λ is. (refl, (bytes, is))
 ] is
 
-there_with : (root : Text) (files : Files) (path : Text) → not (is_service root path) ≡ true → IsThere files path → IsThere (without_service root files) path
-there_with root files path other (bytes, is) = elim (is_service root path) as (λ t. not t ≡ true → (b : Text) × ((if t then None else files path) ≡ Some b)) [
+there_shown : (test : Text → Bool) (files : Files) (path : Text) → not (test path) ≡ true → IsThere files path → IsThere (hiding test files) path
+there_shown test files path other (bytes, is) = elim (test path) as (λ t. not t ≡ true → (b : Text) × ((if t then None else files path) ≡ Some b)) [
   | true ↦ λ other. absurd (cc)
   | false ↦ λ other. (bytes, is)
 ] other
 
-pub listing_without : (root : Text) (files : Files) (dir : Text) (paths : List Text) → IsListing files dir paths → IsListing (without_service root files) dir (others root paths)
-listing_without root files dir paths h = record {
-  rising = IsStrictlySortedBy-filter (slice_cmp nat_cmp) (λ path. not (is_service root path)) paths h.rising;
+pub listing_hiding : (test : Text → Bool) (files : Files) (dir : Text) (paths : List Text) → IsListing files dir paths → IsListing (hiding test files) dir (filter (λ path. not (test path)) paths)
+listing_hiding test files dir paths h = record {
+  rising = IsStrictlySortedBy-filter (slice_cmp nat_cmp) (λ path. not (test path)) paths h.rising;
   each = λ path. (
-    λ has. (let kept = kept_has (λ path. not (is_service root path)) paths path has in let was = (h.each path).0 kept.1 in (was.0, there_with root files path kept.0 was.1)),
-    λ (lies, there). (let was = there_without root files path there in has_kept (λ path. not (is_service root path)) paths path was.0 ((h.each path).1 (lies, was.1))),
+    λ has. (let kept = kept_has (λ path. not (test path)) paths path has in let was = (h.each path).0 kept.1 in (was.0, there_shown test files path kept.0 was.1)),
+    λ (lies, there). (let was = there_hiding test files path there in has_kept (λ path. not (test path)) paths path was.0 ((h.each path).1 (lies, was.1))),
   );
 }
+
+pub listing_without : (root : Text) (files : Files) (dir : Text) (paths : List Text) → IsListing files dir paths → IsListing (without_service root files) dir (others root paths)
+listing_without root files dir paths h = listing_hiding (is_service root) files dir paths h
 
 -- all of a listing but them, where they are at most as many as were asked for
 pub lists_at_most : (root : Text) (files : Files) (dir : Text) (max : ℕ) (paths left : List Text) (l : Listed) → IsListing files dir paths → left ≡ others root paths → IsAtMost left max l → Lists (without_service root files) dir max l

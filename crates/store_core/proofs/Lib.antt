@@ -1,0 +1,13 @@
+pub mod StateLemmas
+pub mod KindLemmas
+pub mod OneKind
+pub mod PathLemmas
+pub mod SeenLemmas
+pub mod TreeLemmas
+pub mod SurveyLemmas
+pub mod OpeningLemmas
+pub mod OrderLemmas
+pub mod NameLemmas
+pub mod TableLemmas
+pub mod TemplateLemmas
+pub mod StandsLemmas

@@ -1,0 +1,241 @@
+-- The files of a store that opens stand for a state.
+use Rattle.std.proofs.Common.{◌≡◌, ◌≢◌, inl, inr, ℕ, ◌<◌, Bool, true, false, ◌||◌, List, [], ◌∷◌, ◌++◌, length, bytes_eq, Option, Some, None, if◌then◌else◌, refl, ap, sym, ◌∙◌, subst, arith}
+use Rattle.std.specs.Prelude.{Contains, codes, option_map, map as each}
+use Rattle.std.specs.FinMap as map
+use Rattle.std.specs.FinMap.Entries.{find}
+use Rattle.std.specs.Ordering.{nat_cmp}
+use Rattle.std.specs.Cmp.Lexicographic.{slice_cmp}
+use Rattle.std.proofs.lemmas.List.{append_cancel_left}
+use Rattle.std.proofs.lemmas.List.Elements.{Contains-append_left, Contains-append_right, Contains-append_cases}
+use Rattle.std.proofs.lemmas.Slice.Eq.{bytes_eq-Decides}
+use Rattle.gopass_base.specs.Text.{Text}
+use Rattle.mount_table.specs.Names.{IsName}
+use Rattle.mount_table.specs.Folders.{IsFolder}
+use Rattle.mount_table.specs.Paths.{path_in}
+use Rattle.mount_table.specs.Mounts.{row_at, IsTable}
+use Rattle.mount_table.specs.declared.mounts.Row.{Row}
+use Rattle.disk_model.specs.Files.{Files}
+use Rattle.disk_model.specs.Listing.{LiesIn, lies_in, rest_in}
+use Rattle.disk_model.proofs.ListingLemmas.{lies_by, rest_is}
+use Rattle.pending_journal.specs.Service.{is_service, is_service_rest, without_service}
+use Rattle.cipher_port.specs.Tool.{Opens}
+use Rattle.recipient_files.specs.Ids.{is_among}
+use Rattle.recipient_files.proofs.SetLemmas.{is_among_tells}
+use Rattle.store_core.specs.declared.kind.Kind.{Kind}
+use Rattle.store_core.specs.declared.kind.Kind.TheVariants.{Template}
+use Rattle.store_core.specs.declared.opening.Found.{Found}
+use Rattle.store_core.specs.Places.{IsFolderOf, folder_rest, in_folder, secret_path, template_file, template_path}
+use Rattle.store_core.specs.Found.{LiesAs}
+use Rattle.store_core.specs.Tree.{is_own, tree_files}
+use Rattle.store_core.specs.State.{Cell, State, StandsFor, IsOwned, cell_of, mounts_path}
+use Rattle.store_core.specs.Opening.{IsFound}
+use Rattle.store_core.proofs.KindLemmas.{one_folder_row}
+use Rattle.store_core.proofs.TableLemmas.{finds, keys_tabled, first_or, later as behind, sorted_tabled, tabled, values_of, value_there, key_of_value}
+use Rattle.store_core.proofs.NameLemmas.{names_found, one_dir, or_cases, false_by}
+use Rattle.store_core.proofs.TemplateLemmas.{full_of_rest, no_own_rest, no_stage, path_of_template, folder_of_template, template_lies_as, template_lies_in}
+
+-- ---- the file of a template is no file of the store's own
+
+template_rest : (root : Text) (mounts : List Row) (k : ℕ) (folder r : Text) → IsTable root mounts → IsFolderOf mounts k folder → template_path mounts k folder ≡ path_in root r → in_folder (folder_rest (row_at mounts k).alias folder) template_file ≡ r
+template_rest root mounts k folder r table (good, here) is =
+    let some = table.some in
+    let first : (row_at mounts 0).dir ≡ root = (table.rows_are.first (omega arith)).1 in
+    let rest = in_folder (folder_rest (row_at mounts k).alias folder) template_file in
+    let whole : path_in (row_at mounts k).dir rest ≡ path_in (row_at mounts 0).dir r = is ∙ ap (λ d. path_in d r) (sym first) in
+    let same : k ≡ 0 = one_dir root mounts k 0 rest r table here.inside (omega arith) whole in
+    let tails : 47 ∷ rest ≡ 47 ∷ r = append_cancel_left (row_at mounts 0).dir (47 ∷ rest) (47 ∷ r) (ap (λ n. path_in (row_at mounts n).dir rest) (sym same) ∙ whole) in
+    cc
+
+not_own_rest : (root : Text) (mounts : List Row) (k : ℕ) (folder us : Text) (b : ℕ) → IsTable root mounts → IsFolderOf mounts k folder → b ≢ 101 → template_path mounts k folder ≢ path_in root (us ++ b ∷ [])
+not_own_rest root mounts k folder us b table h other e = no_own_rest (folder_rest (row_at mounts k).alias folder) us b other (template_rest root mounts k folder (us ++ b ∷ []) table h e)
+
+template_service : (root : Text) (mounts : List Row) (k : ℕ) (folder r : Text) → IsTable root mounts → IsFolderOf mounts k folder → template_path mounts k folder ≡ path_in root r → is_service_rest (Some r) ≡ true → ⊥
+template_service root mounts k folder r table h is e = elim (or_cases (bytes_eq r (codes ".gopass-journal")) (bytes_eq r (codes ".gopass-journal.new") || lies_in (codes ".gopass-stage") r) e) [
+  | inl journal ↦ not_own_rest root mounts k folder (codes ".gopass-journa") 108 table h (λ n. omega (arith, n)) (is ∙ ap (path_in root) ((bytes_eq-Decides r (codes ".gopass-journal")).0 journal))
+  | inr more ↦ elim (or_cases (bytes_eq r (codes ".gopass-journal.new")) (lies_in (codes ".gopass-stage") r) more) [
+    | inl new ↦ not_own_rest root mounts k folder (codes ".gopass-journal.ne") 119 table h (λ n. omega (arith, n)) (is ∙ ap (path_in root) ((bytes_eq-Decides r (codes ".gopass-journal.new")).0 new))
+    | inr stage ↦ no_stage (row_at mounts k).alias (folder_rest (row_at mounts k).alias folder) (subst (λ (t : Text). IsFolder t) (sym (full_of_rest (row_at mounts k).alias folder h.0 h.1.reaches)) h.0)
+        (subst (LiesIn (codes ".gopass-stage")) (sym (template_rest root mounts k folder r table h is)) (lies_by (codes ".gopass-stage") r stage))
+  ]
+]
+
+template_stays : (root : Text) (files : Files) (mounts : List Row) (k : ℕ) (folder : Text) → IsTable root mounts → IsFolderOf mounts k folder → tree_files root files (template_path mounts k folder) ≡ files (template_path mounts k folder)
+template_stays root files mounts k folder table h =
+    ap (λ (t : Bool). if t then None else without_service root files (template_path mounts k folder)) own
+    ∙ ap (λ (t : Bool). if t then None else files (template_path mounts k folder)) service
+  where
+    own : is_own root (template_path mounts k folder) ≡ false
+    own = false_by (is_own root (template_path mounts k folder)) (λ e. elim (or_cases (bytes_eq (template_path mounts k folder) (path_in root (codes ".gopass-mounts"))) (bytes_eq (template_path mounts k folder) (path_in root (codes ".gopass-pending"))) e) [
+      | inl file ↦ not_own_rest root mounts k folder (codes ".gopass-mount") 115 table h (λ n. omega (arith, n)) ((bytes_eq-Decides (template_path mounts k folder) (path_in root (codes ".gopass-mounts"))).0 file)
+      | inr file ↦ not_own_rest root mounts k folder (codes ".gopass-pendin") 103 table h (λ n. omega (arith, n)) ((bytes_eq-Decides (template_path mounts k folder) (path_in root (codes ".gopass-pending"))).0 file)
+    ])
+
+    by : (r : Option Text) → rest_in root (template_path mounts k folder) ≡ r → is_service_rest r ≡ true → ⊥
+    by None is e = cc
+    by (Some r) is e = template_service root mounts k folder r table h (rest_is root (template_path mounts k folder) r is) e
+
+    service : is_service root (template_path mounts k folder) ≡ false
+    service = false_by (is_service root (template_path mounts k folder)) (by (rest_in root (template_path mounts k folder)) refl)
+
+-- ---- the state of what was found
+
+module _ (opens : Opens) (root : Text) (files : Files) (found : Found) (table : IsTable root found.mounts) (is : IsFound root files found) where
+  cell_at : (name : Text) → Contains found.seen.names.items name → Cell
+  cell_at name has = cell_of opens (((names_found root files found table is name).0 has).1.0)
+
+  bytes_at : (folder : Text) → Contains found.seen.templates.items folder → Text
+  bytes_at folder has = ((is.survey.found.templates folder).0 has).5.0
+
+  path_at : (folder : Text) → Contains found.seen.templates.items folder → Text
+  path_at folder has = ((is.survey.found.templates folder).0 has).1
+
+  -- what is known of the template of a folder that has one
+  record IsTemplateAt (folder bytes path : Text) : Type 0 where
+    row : ℕ
+    inside : row < length found.mounts
+    own : IsFolderOf found.mounts row folder
+    path_is : path ≡ template_path found.mounts row folder
+    there : files path ≡ Some bytes
+
+  template_at : (folder : Text) (has : Contains found.seen.templates.items folder) → IsTemplateAt folder (bytes_at folder has) (path_at folder has)
+  unfolding bytes_at path_at
+  template_at folder has =
+      let t = (is.survey.found.templates folder).0 has in
+      let lies = subst (λ (w : Kind). LiesAs found.mounts t.0 w t.1) t.7 t.6 in
+      let own = folder_of_template found.mounts t.0 t.1 folder lies in
+      let same = path_of_template found.mounts t.0 t.1 folder lies in
+      record {
+        row = t.0;
+        inside = t.3;
+        own = own;
+        path_is = same;
+        there = ap files same ∙ (sym (template_stays root files found.mounts t.0 folder table own) ∙ (ap (tree_files root files) (sym same) ∙ t.5.1));
+      }
+
+  has_template : (folder bytes : Text) (k : ℕ) → IsFolderOf found.mounts k folder → files (template_path found.mounts k folder) ≡ Some bytes → Contains found.seen.templates.items folder
+  has_template folder bytes k own there = (is.survey.found.templates folder).1 (
+    k,
+    template_path found.mounts k folder,
+    Template folder,
+    own.1.inside,
+    template_lies_in found.mounts k folder own,
+    (bytes, template_stays root files found.mounts k folder table own ∙ there),
+    template_lies_as found.mounts k folder own,
+    refl,
+  )
+
+  -- the paths of what was found
+  owned_paths : List Text
+  owned_paths = mounts_path root ∷ (values_of found.seen.names.items (λ name has. secret_path found.mounts name) ++ values_of found.seen.templates.items path_at)
+
+  rest_at : Files
+  rest_at path = if is_among owned_paths path then None else files path
+
+  pub found_state : State
+  found_state = record {
+    mounts = found.mounts;
+    rows = map.from_sorted (tabled found.seen.names.items cell_at);
+    templates = map.from_sorted (tabled found.seen.templates.items bytes_at);
+    rest = rest_at;
+  }
+
+  by_none : (file : Option Text) → ((bytes : Text) → file ≡ Some bytes → ⊥) → file ≡ None
+  by_none None h = refl
+  by_none (Some bytes) h = absurd (h bytes refl)
+
+  row_is : (name : Text) → IsName name → find (slice_cmp nat_cmp) name (tabled found.seen.names.items cell_at) ≡ option_map (cell_of opens) (files (secret_path found.mounts name))
+  unfolding cell_at
+  row_is name good = elim (finds found.seen.names.items cell_at name) [
+    | inl (has, e) ↦ e ∙ sym (ap (option_map (cell_of opens)) ((names_found root files found table is name).0 has).1.1)
+    | inr (none, e) ↦ e ∙ sym (ap (option_map (cell_of opens)) (by_none (files (secret_path found.mounts name)) (λ bytes there. none ((names_found root files found table is name).1 (good, (bytes, there))))))
+  ]
+
+  no_row_is : (name : Text) → ¬ IsName name → find (slice_cmp nat_cmp) name (tabled found.seen.names.items cell_at) ≡ None
+  no_row_is name other = elim (finds found.seen.names.items cell_at name) [
+    | inl (has, e) ↦ absurd (other ((names_found root files found table is name).0 has).0)
+    | inr (none, e) ↦ e
+  ]
+
+  template_is : (folder : Text) (k : ℕ) → IsFolderOf found.mounts k folder → find (slice_cmp nat_cmp) folder (tabled found.seen.templates.items bytes_at) ≡ files (template_path found.mounts k folder)
+  template_is folder k own = elim (finds found.seen.templates.items bytes_at folder) [
+    | inl (has, e) ↦ (let t = template_at folder has in
+        let same : t.row ≡ k = one_folder_row root folder found.mounts t.row k table t.own.1 own.1 in
+        e ∙ sym (ap (λ n. files (template_path found.mounts n folder)) (sym same) ∙ (ap files (sym t.path_is) ∙ t.there)))
+    | inr (none, e) ↦ e ∙ sym (by_none (files (template_path found.mounts k folder)) (λ bytes there. none (has_template folder bytes k own there)))
+  ]
+
+  no_template_is : (folder : Text) → ¬ ((k : ℕ) × IsFolderOf found.mounts k folder) → find (slice_cmp nat_cmp) folder (tabled found.seen.templates.items bytes_at) ≡ None
+  no_template_is folder other = elim (finds found.seen.templates.items bytes_at folder) [
+    | inl (has, e) ↦ (let t = template_at folder has in absurd (other (t.row, t.own)))
+    | inr (none, e) ↦ e
+  ]
+
+  -- each path with a file that is owned is among them, and each of them is owned
+  owned_listed : (path bytes : Text) → IsOwned root found.mounts path → files path ≡ Some bytes → Contains owned_paths path
+  unfolding owned_paths
+  owned_listed path bytes (inl mounts_file) there = (0, omega arith, sym mounts_file)
+  owned_listed path bytes (inr (inl (name, good, same))) there =
+      let names = values_of found.seen.names.items (λ name has. secret_path found.mounts name) in
+      let templates = values_of found.seen.templates.items path_at in
+      let has = (names_found root files found table is name).1 (good, (bytes, ap files (sym same) ∙ there)) in
+      let listed = (value_there found.seen.names.items (λ name has. secret_path found.mounts name) name has).1 in
+      behind (mounts_path root) (names ++ templates) path (Contains-append_left names templates path (subst (Contains names) (sym same) listed))
+  owned_listed path bytes (inr (inr (folder, k, own, same))) there =
+      let names = values_of found.seen.names.items (λ name has. secret_path found.mounts name) in
+      let templates = values_of found.seen.templates.items path_at in
+      let has = has_template folder bytes k own (ap files (sym same) ∙ there) in
+      let (there_has, listed) = value_there found.seen.templates.items path_at folder has in
+      let t = template_at folder there_has in
+      let row : t.row ≡ k = one_folder_row root folder found.mounts t.row k table t.own.1 own.1 in
+      let path_same : path_at folder there_has ≡ path = t.path_is ∙ (ap (λ n. template_path found.mounts n folder) row ∙ sym same) in
+      behind (mounts_path root) (names ++ templates) path (Contains-append_right names templates path (subst (Contains templates) path_same listed))
+
+  listed_owned : (path : Text) → Contains owned_paths path → IsOwned root found.mounts path
+  unfolding owned_paths
+  listed_owned path has = elim (first_or (mounts_path root) (values_of found.seen.names.items (λ name h. secret_path found.mounts name) ++ values_of found.seen.templates.items path_at) path has) [
+    | inl first ↦ inl (sym first)
+    | inr more ↦ elim (Contains-append_cases (values_of found.seen.names.items (λ name h. secret_path found.mounts name)) (values_of found.seen.templates.items path_at) path more) [
+      | inl secret ↦ (let (name, h, same) = key_of_value found.seen.names.items (λ name h. secret_path found.mounts name) path secret in
+          inr (inl (name, ((names_found root files found table is name).0 h).0, sym same)))
+      | inr template ↦ (let (folder, h, same) = key_of_value found.seen.templates.items path_at path template in
+          let t = template_at folder h in
+          inr (inr (folder, t.row, t.own, sym same ∙ t.path_is)))
+    ]
+  ]
+
+  owned_is : (path : Text) → IsOwned root found.mounts path → rest_at path ≡ None
+  unfolding rest_at
+  owned_is path own = elim (is_among owned_paths path) as (λ t. is_among owned_paths path ≡ t → (if t then None else files path) ≡ None) [
+    | true ↦ λ e. refl
+    | false ↦ λ e. by_none (files path) (λ bytes there. differs (sym ((is_among_tells owned_paths path).1 (owned_listed path bytes own there)) ∙ e))
+  ] refl
+    where
+      differs : true ≡ false → ⊥
+      differs e = cc
+
+  other_is : (path : Text) → ¬ IsOwned root found.mounts path → rest_at path ≡ files path
+  unfolding rest_at
+  other_is path other = elim (is_among owned_paths path) as (λ t. is_among owned_paths path ≡ t → (if t then None else files path) ≡ files path) [
+    | true ↦ λ e. absurd (other (listed_owned path ((is_among_tells owned_paths path).0 e)))
+    | false ↦ λ e. refl
+  ] refl
+
+  pub found_stands : StandsFor opens root files found_state
+  unfolding found_state
+  found_stands = record {
+    mounts_are = is.mounts_are;
+    row = λ name good. map.get-from_sorted (slice_cmp nat_cmp) (tabled found.seen.names.items cell_at) name (sorted_tabled found.seen.names.items cell_at is.rising.names) ∙ row_is name good;
+    no_row = λ name other. map.get-from_sorted (slice_cmp nat_cmp) (tabled found.seen.names.items cell_at) name (sorted_tabled found.seen.names.items cell_at is.rising.names) ∙ no_row_is name other;
+    template = λ folder k own. map.get-from_sorted (slice_cmp nat_cmp) (tabled found.seen.templates.items bytes_at) folder (sorted_tabled found.seen.templates.items bytes_at is.rising.templates) ∙ template_is folder k own;
+    no_template = λ folder other. map.get-from_sorted (slice_cmp nat_cmp) (tabled found.seen.templates.items bytes_at) folder (sorted_tabled found.seen.templates.items bytes_at is.rising.templates) ∙ no_template_is folder other;
+    owned = owned_is;
+    other = other_is;
+  }
+
+  pub found_keys : map.keys found_state.rows ≡ found.seen.names.items
+  unfolding found_state
+  found_keys = ap (each (λ (e : Text × Cell). e.0)) (map.entries-from_sorted (slice_cmp nat_cmp) (tabled found.seen.names.items cell_at) (sorted_tabled found.seen.names.items cell_at is.rising.names)) ∙ keys_tabled found.seen.names.items cell_at
+
+  pub found_mounts : found_state.mounts ≡ found.mounts
+  unfolding found_state
+  found_mounts = refl

@@ -1,0 +1,106 @@
+-- The state is determined by the files.
+use Rattle.std.proofs.Common.{◌≡◌, ℕ, Bool, true, false, ◌&&◌, List, [], Option, Some, None, bytes_eq, refl, ap, sym, ◌∙◌, subst}
+use Rattle.std.proofs.Math.Path.{fun_ext}
+use Rattle.std.specs.Prelude.{option_map}
+use Rattle.std.specs.Bool.{Decides}
+use Rattle.std.specs.Option.{option_eq}
+use Rattle.std.specs.FinMap as map
+use Rattle.std.specs.FinMap.{nat_cmp-IsAntisymmetric, slice_cmp-IsAntisymmetric}
+use Rattle.std.specs.Cmp.Lexicographic.{pointwise, pointwise_decides}
+use Rattle.std.proofs.lemmas.Cmp.{nat_list_cmp_total}
+use Rattle.std.proofs.lemmas.Slice.Eq.{bytes_eq-Decides}
+use Rattle.gopass_base.specs.Text.{Text}
+use Rattle.mount_table.specs.Names.{IsName}
+use Rattle.mount_table.specs.declared.mounts.Row.{Row}
+use Rattle.mount_table.proofs.LineLemmas.{one_text}
+use Rattle.disk_model.specs.Files.{Files}
+use Rattle.cipher_port.specs.Tool.{Opens}
+use Rattle.store_core.specs.Places.{IsFolderOf, secret_path, template_path}
+use Rattle.store_core.specs.State.{Cell, Sealed, Broken, State, AreMounts, IsOwned, StandsFor, cell_of, mounts_path}
+
+-- ---- values that tests tell apart
+
+cell_eq : Cell → Cell → Bool
+cell_eq (Sealed a) (Sealed b) = pointwise bytes_eq a.to b.to && bytes_eq a.body b.body
+cell_eq (Broken a) (Broken b) = bytes_eq a b
+cell_eq (Sealed a) (Broken b) = false
+cell_eq (Broken a) (Sealed b) = false
+
+both : (a b : Bool) → a && b ≡ true → (a ≡ true) × (b ≡ true)
+both true b e = (refl, e)
+both false b e = absurd (cc)
+
+cell_tells : (a b : Cell) → Decides (cell_eq a b) (a ≡ b)
+unfolding cell_eq
+cell_tells (Sealed a) (Sealed b) = (
+  λ e. (let tests = both (pointwise bytes_eq a.to b.to) (bytes_eq a.body b.body) e in
+      let to = (pointwise_decides bytes_eq-Decides a.to b.to).0 tests.0 in
+      let body = (bytes_eq-Decides a.body b.body).0 tests.1 in
+      λ i. Sealed (record { to = to i; body = body i })),
+  λ e. (let to : a.to ≡ b.to = ap ids e in let body : a.body ≡ b.body = ap body_of e in
+      ap (λ t. t && bytes_eq a.body b.body) ((pointwise_decides bytes_eq-Decides a.to b.to).1 to) ∙ (bytes_eq-Decides a.body b.body).1 body),
+)
+  where
+    ids : Cell → List Text
+    ids (Sealed c) = c.to
+    ids (Broken t) = []
+
+    body_of : Cell → Text
+    body_of (Sealed c) = c.body
+    body_of (Broken t) = t
+cell_tells (Broken a) (Broken b) = (λ e. ap Broken ((bytes_eq-Decides a b).0 e), λ e. (bytes_eq-Decides a b).1 (ap text e))
+  where
+    text : Cell → Text
+    text (Sealed c) = c.body
+    text (Broken t) = t
+cell_tells (Sealed a) (Broken b) = (λ e. absurd (cc), λ e. absurd (cc))
+cell_tells (Broken a) (Sealed b) = (λ e. absurd (cc), λ e. absurd (cc))
+
+option_tells : {X : Type 0} (eq : X → X → Bool) → ((x y : X) → Decides (eq x y) (x ≡ y)) → (a b : Option X) → Decides (option_eq eq a b) (a ≡ b)
+option_tells eq tells None None = (λ e. refl, λ e. refl)
+option_tells eq tells None (Some y) = (λ e. absurd (cc), λ e. absurd (cc))
+option_tells eq tells (Some x) None = (λ e. absurd (cc), λ e. absurd (cc))
+option_tells eq tells (Some x) (Some y) = (λ e. ap Some ((tells x y).0 e), λ e. (let same : x ≡ y = cc in (tells x y).1 same))
+
+-- what holds where P does and where it does not, holds, if it can be told
+either_way : (b : Bool) (P Q : Type 0) → Decides b Q → (P → Q) → (¬ P → Q) → Q
+either_way true P Q tells on off = tells.0 refl
+either_way false P Q tells on off = off (λ p. absurd (differs (tells.1 (on p))))
+  where
+    differs : false ≡ true → ⊥
+    differs e = cc
+
+-- ---- the parts of a state
+
+one_table : (root : Text) (file : Option Text) (m n : List Row) → AreMounts root file m → AreMounts root file n → m ≡ n
+one_table root None m n h k = h ∙ sym k
+one_table root (Some bytes) m n h k = one_text root root m n h.0 k.0 (sym h.1 ∙ k.1)
+
+one_rows : (opens : Opens) (root : Text) (files : Files) (a b : State) → a.mounts ≡ b.mounts → StandsFor opens root files a → StandsFor opens root files b → a.rows ≡ b.rows
+one_rows opens root files a b same h k = map.same_map nat_list_cmp_total (slice_cmp-IsAntisymmetric nat_cmp-IsAntisymmetric) a.rows b.rows (λ name.
+    either_way (option_eq cell_eq (map.get a.rows name) (map.get b.rows name)) (IsName name) (map.get a.rows name ≡ map.get b.rows name)
+    (option_tells cell_eq cell_tells (map.get a.rows name) (map.get b.rows name))
+    (λ good. h.row name good ∙ (ap (λ mounts. option_map (cell_of opens) (files (secret_path mounts name))) same ∙ sym (k.row name good)))
+    (λ other. h.no_row name other ∙ sym (k.no_row name other)))
+
+one_templates : (opens : Opens) (root : Text) (files : Files) (a b : State) → a.mounts ≡ b.mounts → StandsFor opens root files a → StandsFor opens root files b → a.templates ≡ b.templates
+one_templates opens root files a b same h k = map.same_map nat_list_cmp_total (slice_cmp-IsAntisymmetric nat_cmp-IsAntisymmetric) a.templates b.templates (λ folder.
+    either_way (option_eq bytes_eq (map.get a.templates folder) (map.get b.templates folder)) ((k : ℕ) × IsFolderOf a.mounts k folder) (map.get a.templates folder ≡ map.get b.templates folder)
+    (option_tells bytes_eq bytes_eq-Decides (map.get a.templates folder) (map.get b.templates folder))
+    (λ (n, here). h.template folder n here ∙ (ap (λ mounts. files (template_path mounts n folder)) same ∙ sym (k.template folder n (subst (λ (mounts : List Row). IsFolderOf mounts n folder) same here))))
+    (λ other. h.no_template folder other ∙ sym (k.no_template folder (subst (λ (mounts : List Row). ¬ ((k : ℕ) × IsFolderOf mounts k folder)) same other))))
+
+one_rest : (opens : Opens) (root : Text) (files : Files) (a b : State) → a.mounts ≡ b.mounts → StandsFor opens root files a → StandsFor opens root files b → a.rest ≡ b.rest
+one_rest opens root files a b same h k = fun_ext (λ path.
+    either_way (option_eq bytes_eq (a.rest path) (b.rest path)) (IsOwned root a.mounts path) (a.rest path ≡ b.rest path)
+    (option_tells bytes_eq bytes_eq-Decides (a.rest path) (b.rest path))
+    (λ owned. h.owned path owned ∙ sym (k.owned path (subst (λ (mounts : List Row). IsOwned root mounts path) same owned)))
+    (λ other. h.other path other ∙ sym (k.other path (subst (λ (mounts : List Row). ¬ IsOwned root mounts path) same other))))
+
+pub one_state : (opens : Opens) (root : Text) (files : Files) (a b : State) → StandsFor opens root files a → StandsFor opens root files b → a ≡ b
+one_state opens root files a b h k =
+    let mounts = one_table root (files (mounts_path root)) a.mounts b.mounts h.mounts_are k.mounts_are in
+    let rows = one_rows opens root files a b mounts h k in
+    let templates = one_templates opens root files a b mounts h k in
+    let rest = one_rest opens root files a b mounts h k in
+    λ i. record { mounts = mounts i; rows = rows i; templates = templates i; rest = rest i }

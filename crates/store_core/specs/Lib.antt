@@ -1,0 +1,9 @@
+pub mod Places
+pub mod State
+pub mod Found
+pub mod Tree
+pub mod Survey
+pub mod Opening
+pub mod Stores
+pub mod Order
+pub mod Faults
