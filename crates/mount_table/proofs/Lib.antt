@@ -4,6 +4,7 @@ pub mod NameLemmas
 pub mod JoinLemmas
 pub mod FolderLemmas
 pub mod FolderNames
+pub mod FaultOfLemmas
 pub mod PrefixLemmas
 pub mod RestLemmas
 pub mod OrderLemmas

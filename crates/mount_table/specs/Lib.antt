@@ -2,6 +2,7 @@ pub mod Names
 pub mod NameFaults
 pub mod Prefixes
 pub mod Folders
+pub mod FaultOf
 pub mod Paths
 pub mod Mounts
 pub mod MountOf

@@ -109,7 +109,7 @@ impl Folder {
     }
 
     /// The byte where the rest of each name begins that the folder holds.
-    pub(crate) fn start_below(&self) -> usize
+    pub fn start_below(&self) -> usize
         ensures { (name : Text) → Holds self.now name → result ≡ rest_start self.now name }
     {
         let text = self.text();
@@ -205,7 +205,8 @@ fn without_slash(text: &str) -> &str
     }
 }
 
-fn is_above(folder: &[u8], name: &[u8]) -> bool
+/// Whether the secret with this name lies in the folder.
+pub(crate) fn is_above(folder: &[u8], name: &[u8]) -> bool
     ensures { IsTrue result ↔ Holds folder.now name.now }
 {
     if folder.is_empty() {

@@ -2,6 +2,7 @@
 #![tactic(auto)]
 
 mod cut;
+mod faults;
 mod folder;
 mod mounts;
 mod mounts_text;
@@ -10,6 +11,7 @@ mod part;
 mod path;
 mod service;
 
+pub use faults::{faults_of_folders, faults_of_names};
 pub use folder::Folder;
 pub use mounts::{AddFault, Mounts, NotMounted, Place, Row};
 pub use mounts_text::MountsFault;

@@ -156,7 +156,8 @@ impl Mounts {
 
     /// The file of the secret: the directory of its mount, `/`, the rest of its name and `.gpg`.
     pub fn file_of(&self, name: &Name) -> Result<FilePath, NoMemory>
-        ensures { IfOk result (λ path. IsFileOf self.now name.now path) }
+        ensures file { IfOk result (λ path. IsFileOf self.now name.now path) }
+        ensures table { IsTable (root_of self.now) self.now }
     {
         let alloc = *self.rows.allocator();
         let row = &self.rows[self.resolve(name).row];

@@ -1,13 +1,13 @@
 //! The full name of a secret, as `mail/work/me`.
 
-ghost use Rattle.std.specs.Prelude.{◌≡◌, ◌≤◌, ◌&&◌, not, length, drop, IsOk, IfOk, Err, MatchOption};
+ghost use Rattle.std.specs.Prelude.{◌≡◌, ◌↔◌, ◌≤◌, ◌&&◌, not, length, drop, IsTrue, IsOk, IfOk, Err, MatchOption};
 ghost use Rattle.mount_table.specs.Names.{parts, IsName};
 ghost use Rattle.mount_table.specs.Prefixes.{Holds, rest_start};
 ghost use Rattle.mount_table.specs.NameFaults.{Fails, IsGood, AreGood, IsFirstFault, IsFault, IsNameFault};
 ghost use Rattle.mount_table.specs.declared.name.BadName.{BadName};
 ghost use Rattle.mount_table.specs.declared.name.NameFault.TheVariants.{NoMemory};
 
-use crate::folder::Folder;
+use crate::folder::{Folder, is_above};
 use crate::part::{is_hidden, is_sealed_name};
 use gopass_base::{NoMemory, is_printable};
 use std::alloc::{AllocError, Global};
@@ -108,6 +108,13 @@ impl Name {
         Ok(Name {
             text: String::from_str(alloc, &self.text()[folder.start_below()..])?,
         })
+    }
+
+    /// Whether the other name lies in the folder that has the text of this one.
+    pub fn holds(&self, other: &Name) -> bool
+        ensures { IsTrue result ↔ Holds self.now other.now }
+    {
+        is_above(self.text().as_bytes(), other.text().as_bytes())
     }
 
     /// The same name once more.

@@ -49,6 +49,16 @@ fn names(rt: HostRuntime) -> Result<(), Fail> {
     Ok(())
 }
 
+#[test]
+fn names_below_a_name(rt: HostRuntime) -> Result<(), Fail> {
+    let outer = Name::read(rt.alloc(), "a")?;
+    for (name, holds) in [("a/b", true), ("a", false), ("ab/c", false)] {
+        let name = Name::read(rt.alloc(), name)?;
+        assert_eq!(rt; outer.holds(&name), holds);
+    }
+    Ok(())
+}
+
 const BAD: Option<PathFault> = Some(PathFault::Bad);
 
 #[test]
