@@ -1,0 +1,26 @@
+//! Names on lines of their own.
+
+ghost use Rattle.std.specs.Prelude.{◌≡◌, ◌∷◌, ◌++◌, [], IfOk, OnOk};
+ghost use Rattle.listing_texts.specs.Lines.{on_lines};
+
+use gopass_base::NoMemory;
+use mount_table::Name;
+use std::alloc::{AllocError, Global};
+
+/// The names in their order, each with a line feed behind it.
+pub fn on_lines(alloc: Global, names: &[Name]) -> Result<Vec<u8>, NoMemory>
+    ensures { IfOk result (λ text. text.items ≡ on_lines names.now) }
+{
+    let mut text = Vec::new(alloc);
+    for name in names {
+        push_on_line(&mut text, name.text())?;
+    }
+    Ok(text)
+}
+
+fn push_on_line(text: &mut Vec<u8>, line: &str) -> Result<(), AllocError>
+    ensures { OnOk result (text.new.items ≡ text.old.items ++ (line.now ++ 10 ∷ [])) }
+{
+    text.extend_from_slice(line.as_bytes())?;
+    text.extend_from_slice(b"\n")
+}
