@@ -11,3 +11,7 @@ pub mod NameLemmas
 pub mod TableLemmas
 pub mod TemplateLemmas
 pub mod StandsLemmas
+pub mod HoldsLemmas
+pub mod AgreeLemmas
+pub mod PerformLemmas
+pub mod ShowLemmas

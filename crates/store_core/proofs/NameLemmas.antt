@@ -87,7 +87,7 @@ pub false_by : (b : Bool) → (b ≡ true → ⊥) → b ≡ false
 false_by true h = absurd (h refl)
 false_by false h = refl
 
-no_service : (root : Text) (mounts : List Row) (name : Text) → IsTable root mounts → IsName name → is_service root (secret_path mounts name) ≡ false
+pub no_service : (root : Text) (mounts : List Row) (name : Text) → IsTable root mounts → IsName name → is_service root (secret_path mounts name) ≡ false
 no_service root mounts name table good = false_by (is_service root (secret_path mounts name)) (by (rest_in root (secret_path mounts name)) refl)
   where
     by : (r : Option Text) → rest_in root (secret_path mounts name) ≡ r → is_service_rest r ≡ true → ⊥

@@ -27,7 +27,7 @@ use Rattle.store_core.specs.declared.opening.Found.{Found}
 use Rattle.store_core.specs.Places.{IsFolderOf, folder_rest, in_folder, secret_path, template_file, template_path}
 use Rattle.store_core.specs.Found.{LiesAs}
 use Rattle.store_core.specs.Tree.{is_own, tree_files}
-use Rattle.store_core.specs.State.{Cell, State, StandsFor, IsOwned, cell_of, mounts_path}
+use Rattle.store_core.specs.State.{Cell, State, StandsFor, IsOwned, cell_of, is_outside, mounts_path}
 use Rattle.store_core.specs.Opening.{IsFound}
 use Rattle.store_core.proofs.KindLemmas.{one_folder_row}
 use Rattle.store_core.proofs.TableLemmas.{finds, keys_tabled, first_or, later as behind, sorted_tabled, tabled, values_of, value_there, key_of_value}
@@ -129,7 +129,7 @@ module _ (opens : Opens) (root : Text) (files : Files) (found : Found) (table : 
   owned_paths = mounts_path root ∷ (values_of found.seen.names.items (λ name has. secret_path found.mounts name) ++ values_of found.seen.templates.items path_at)
 
   rest_at : Files
-  rest_at path = if is_among owned_paths path then None else files path
+  rest_at path = if is_outside root path || is_among owned_paths path then None else files path
 
   pub found_state : State
   found_state = record {
@@ -203,22 +203,31 @@ module _ (opens : Opens) (root : Text) (files : Files) (found : Found) (table : 
     ]
   ]
 
-  owned_is : (path : Text) → IsOwned root found.mounts path → rest_at path ≡ None
+  -- the rest at a path, by what the two tests say
+  rest_by : (out among : Bool) (path : Text) → is_outside root path ≡ out → is_among owned_paths path ≡ among → rest_at path ≡ (if out || among then None else files path)
   unfolding rest_at
-  owned_is path own = elim (is_among owned_paths path) as (λ t. is_among owned_paths path ≡ t → (if t then None else files path) ≡ None) [
-    | true ↦ λ e. refl
-    | false ↦ λ e. by_none (files path) (λ bytes there. differs (sym ((is_among_tells owned_paths path).1 (owned_listed path bytes own there)) ∙ e))
-  ] refl
+  rest_by out among path e f = λ i. if e i || f i then None else files path
+
+  owned_is : (path : Text) → IsOwned root found.mounts path → rest_at path ≡ None
+  owned_is path own = by (is_outside root path) (is_among owned_paths path) refl refl
     where
       differs : true ≡ false → ⊥
       differs e = cc
 
-  other_is : (path : Text) → ¬ IsOwned root found.mounts path → rest_at path ≡ files path
-  unfolding rest_at
-  other_is path other = elim (is_among owned_paths path) as (λ t. is_among owned_paths path ≡ t → (if t then None else files path) ≡ files path) [
-    | true ↦ λ e. absurd (other (listed_owned path ((is_among_tells owned_paths path).0 e)))
-    | false ↦ λ e. refl
-  ] refl
+      by : (out among : Bool) → is_outside root path ≡ out → is_among owned_paths path ≡ among → rest_at path ≡ None
+      by true among e f = rest_by true among path e f
+      by false true e f = rest_by false true path e f
+      by false false e f = rest_by false false path e f ∙ by_none (files path) (λ bytes there. differs (sym ((is_among_tells owned_paths path).1 (owned_listed path bytes own there)) ∙ f))
+
+  outside_is : (path : Text) → is_outside root path ≡ true → rest_at path ≡ None
+  outside_is path e = rest_by true (is_among owned_paths path) path e refl
+
+  other_is : (path : Text) → ¬ IsOwned root found.mounts path → is_outside root path ≡ false → rest_at path ≡ files path
+  other_is path other e = by (is_among owned_paths path) refl
+    where
+      by : (among : Bool) → is_among owned_paths path ≡ among → rest_at path ≡ files path
+      by true f = absurd (other (listed_owned path ((is_among_tells owned_paths path).0 f)))
+      by false f = rest_by false false path e f
 
   pub found_stands : StandsFor opens root files found_state
   unfolding found_state
@@ -229,6 +238,7 @@ module _ (opens : Opens) (root : Text) (files : Files) (found : Found) (table : 
     template = λ folder k own. map.get-from_sorted (slice_cmp nat_cmp) (tabled found.seen.templates.items bytes_at) folder (sorted_tabled found.seen.templates.items bytes_at is.rising.templates) ∙ template_is folder k own;
     no_template = λ folder other. map.get-from_sorted (slice_cmp nat_cmp) (tabled found.seen.templates.items bytes_at) folder (sorted_tabled found.seen.templates.items bytes_at is.rising.templates) ∙ no_template_is folder other;
     owned = owned_is;
+    outside = outside_is;
     other = other_is;
   }
 

@@ -16,7 +16,7 @@ use Rattle.mount_table.proofs.LineLemmas.{one_text}
 use Rattle.disk_model.specs.Files.{Files}
 use Rattle.cipher_port.specs.Tool.{Opens}
 use Rattle.store_core.specs.Places.{IsFolderOf, secret_path, template_path}
-use Rattle.store_core.specs.State.{Cell, Sealed, Broken, State, AreMounts, IsOwned, StandsFor, cell_of, mounts_path}
+use Rattle.store_core.specs.State.{Cell, Sealed, Broken, State, AreMounts, IsOwned, StandsFor, cell_of, is_outside, mounts_path}
 
 -- ---- values that tests tell apart
 
@@ -91,11 +91,17 @@ one_templates opens root files a b same h k = map.same_map nat_list_cmp_total (s
     (λ other. h.no_template folder other ∙ sym (k.no_template folder (subst (λ (mounts : List Row). ¬ ((k : ℕ) × IsFolderOf mounts k folder)) same other))))
 
 one_rest : (opens : Opens) (root : Text) (files : Files) (a b : State) → a.mounts ≡ b.mounts → StandsFor opens root files a → StandsFor opens root files b → a.rest ≡ b.rest
-one_rest opens root files a b same h k = fun_ext (λ path.
-    either_way (option_eq bytes_eq (a.rest path) (b.rest path)) (IsOwned root a.mounts path) (a.rest path ≡ b.rest path)
-    (option_tells bytes_eq bytes_eq-Decides (a.rest path) (b.rest path))
-    (λ owned. h.owned path owned ∙ sym (k.owned path (subst (λ (mounts : List Row). IsOwned root mounts path) same owned)))
-    (λ other. h.other path other ∙ sym (k.other path (subst (λ (mounts : List Row). ¬ IsOwned root mounts path) same other))))
+one_rest opens root files a b same h k = fun_ext (λ path. by path (is_outside root path) refl)
+  where
+    inside : (path : Text) → is_outside root path ≡ false → a.rest path ≡ b.rest path
+    inside path out = either_way (option_eq bytes_eq (a.rest path) (b.rest path)) (IsOwned root a.mounts path) (a.rest path ≡ b.rest path)
+        (option_tells bytes_eq bytes_eq-Decides (a.rest path) (b.rest path))
+        (λ owned. h.owned path owned ∙ sym (k.owned path (subst (λ (mounts : List Row). IsOwned root mounts path) same owned)))
+        (λ other. h.other path other out ∙ sym (k.other path (subst (λ (mounts : List Row). ¬ IsOwned root mounts path) same other) out))
+
+    by : (path : Text) (t : Bool) → is_outside root path ≡ t → a.rest path ≡ b.rest path
+    by path true out = h.outside path out ∙ sym (k.outside path out)
+    by path false out = inside path out
 
 pub one_state : (opens : Opens) (root : Text) (files : Files) (a b : State) → StandsFor opens root files a → StandsFor opens root files b → a ≡ b
 one_state opens root files a b h k =

@@ -29,7 +29,7 @@ both_on false b p q = absurd p
 ties : (q key : Text) → q ≡ key → eq_by_cmp (slice_cmp nat_cmp) q key ≡ true
 ties q key same = ap is_eq (subst (λ (t : Text). slice_cmp nat_cmp q t ≡ Equal) same (tied_itself nat_list_cmp_total q))
 
-equal : (o : Ordering) → is_eq o ≡ true → o ≡ Equal
+pub equal : (o : Ordering) → is_eq o ≡ true → o ≡ Equal
 equal Less e = absurd (cc)
 equal Equal e = refl
 equal Greater e = absurd (cc)

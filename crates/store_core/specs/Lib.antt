@@ -5,5 +5,15 @@ pub mod Tree
 pub mod Survey
 pub mod Opening
 pub mod Stores
+pub mod Reads
 pub mod Order
 pub mod Faults
+pub mod Texts
+pub mod Said
+pub mod Events
+pub mod Moment
+pub mod Performs
+pub mod Does
+pub mod Refusals
+pub mod Show
+pub mod Unsealing

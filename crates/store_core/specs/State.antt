@@ -1,5 +1,5 @@
 -- The state that the files of a store stand for.
-use Rattle.std.specs.Prelude.{◌≡◌, ◌⊎◌, ℕ, List, [], ◌∷◌, Option, None, Some, option_map}
+use Rattle.std.specs.Prelude.{◌≡◌, ◌⊎◌, ℕ, Bool, ◌||◌, List, [], ◌∷◌, Option, None, Some, option_map, IsTrue, IsFalse}
 use Rattle.std.specs.FinMap as map
 use Rattle.std.specs.Ordering.{nat_cmp}
 use Rattle.std.specs.Cmp.Lexicographic.{slice_cmp}
@@ -11,6 +11,8 @@ use Rattle.mount_table.specs.MountsText.{text_of}
 use Rattle.mount_table.specs.declared.mounts.Row.{Row}
 use Rattle.mount_table.specs.declared.service.ServiceFile.TheVariants.{Mounts}
 use Rattle.disk_model.specs.Files.{Files}
+use Rattle.disk_model.specs.Listing.{has_git}
+use Rattle.pending_journal.specs.Service.{is_service}
 use Rattle.cipher_port.specs.Tool.{Content, Opens}
 use Rattle.store_core.specs.Places.{secret_path, template_path, IsFolderOf}
 
@@ -30,7 +32,8 @@ cell_with None bytes = Broken bytes
 abbrev pub cell_of : Opens → Text → Cell
 cell_of opens bytes = cell_with (opens bytes) bytes
 
--- the mounts; the secrets, each under its name; the templates, each under its folder; and the bytes at each other path
+-- the mounts; the secrets, each under its name; the templates, each under its folder; and the bytes at each other path of
+-- the store
 pub record State : Type 0 where
   pub mounts : List Row
   pub rows : TextMap Cell
@@ -52,8 +55,12 @@ IsOwned root mounts path =
     ⊎ (((name : Text) × IsName name × (path ≡ secret_path mounts name))
     ⊎ ((folder : Text) × (k : ℕ) × IsFolderOf mounts k folder × (path ≡ template_path mounts k folder)))
 
+-- the path is none of a store: it is one of the vault's own, or has a part `.git`
+abbrev pub is_outside : (root path : Text) → Bool
+is_outside root path = is_service root path || has_git path
+
 -- the files stand for the state: its mounts are those of the mounts file; at each name it has what lies at the file of
--- the secret, at each folder what lies at the file of its template, and at each other path what lies there
+-- the secret, at each folder what lies at the file of its template, and at each other path of a store what lies there
 pub record StandsFor (opens : Opens) (root : Text) (files : Files) (state : State) : Type 0 where
   pub mounts_are : AreMounts root (files (mounts_path root)) state.mounts
   pub row : (name : Text) → IsName name → map.get state.rows name ≡ option_map (cell_of opens) (files (secret_path state.mounts name))
@@ -61,4 +68,5 @@ pub record StandsFor (opens : Opens) (root : Text) (files : Files) (state : Stat
   pub template : (folder : Text) (k : ℕ) → IsFolderOf state.mounts k folder → map.get state.templates folder ≡ files (template_path state.mounts k folder)
   pub no_template : (folder : Text) → ¬ ((k : ℕ) × IsFolderOf state.mounts k folder) → map.get state.templates folder ≡ None
   pub owned : (path : Text) → IsOwned root state.mounts path → state.rest path ≡ None
-  pub other : (path : Text) → ¬ IsOwned root state.mounts path → state.rest path ≡ files path
+  pub outside : (path : Text) → IsTrue (is_outside root path) → state.rest path ≡ None
+  pub other : (path : Text) → ¬ IsOwned root state.mounts path → IsFalse (is_outside root path) → state.rest path ≡ files path

@@ -8,9 +8,9 @@ fn path(rt: &HostRuntime, text: &str) -> Result<FilePath, Fail> {
     Ok(FilePath::read(rt.alloc(), text)?)
 }
 
-type File<'a> = (&'a str, &'a [u8]);
+pub(crate) type File<'a> = (&'a str, &'a [u8]);
 
-fn disk(rt: &HostRuntime, files: &[File]) -> Result<MemDisk, Fail> {
+pub(crate) fn disk(rt: &HostRuntime, files: &[File]) -> Result<MemDisk, Fail> {
     let mut list = Vec::new(rt.alloc());
     for (text, bytes) in files {
         list.push((path(rt, text)?, bytes.to_vec(rt.alloc())?))?;
@@ -27,7 +27,7 @@ fn opened(rt: &HostRuntime, disk: MemDisk) -> Result<StoreOpened<MemDisk>, Fail>
     }
 }
 
-fn store(rt: &HostRuntime, disk: MemDisk) -> Result<Store<MemDisk>, Fail> {
+pub(crate) fn store(rt: &HostRuntime, disk: MemDisk) -> Result<Store<MemDisk>, Fail> {
     match opened(rt, disk)? {
         StoreOpened::Ready(store) => Ok(store),
         StoreOpened::Refused(fault, _) => Err(Fail::from(fault)),
@@ -42,7 +42,7 @@ fn fault(rt: &HostRuntime, disk: MemDisk) -> Result<String, Fail> {
     }
 }
 
-fn names(rt: &HostRuntime, names: &[Name]) -> Result<String, Fail> {
+pub(crate) fn names(rt: &HostRuntime, names: &[Name]) -> Result<String, Fail> {
     let mut text = String::new(rt.alloc());
     for name in names {
         text.push_str(name.text())?;
@@ -51,7 +51,7 @@ fn names(rt: &HostRuntime, names: &[Name]) -> Result<String, Fail> {
     Ok(text)
 }
 
-fn folders(rt: &HostRuntime, folders: &[Folder]) -> Result<String, Fail> {
+pub(crate) fn folders(rt: &HostRuntime, folders: &[Folder]) -> Result<String, Fail> {
     let mut text = String::new(rt.alloc());
     for folder in folders {
         text.push('/')?;
@@ -61,7 +61,7 @@ fn folders(rt: &HostRuntime, folders: &[Folder]) -> Result<String, Fail> {
     Ok(text)
 }
 
-fn paths(rt: &HostRuntime, paths: &[FilePath]) -> Result<String, Fail> {
+pub(crate) fn paths(rt: &HostRuntime, paths: &[FilePath]) -> Result<String, Fail> {
     let mut text = String::new(rt.alloc());
     for path in paths {
         text.push_str(path.text())?;

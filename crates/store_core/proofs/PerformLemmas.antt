@@ -1,0 +1,96 @@
+-- Commands that change nothing, and want of memory behind any command.
+use Rattle.std.proofs.Common.{◌≡◌, ℕ, ◌+◌, ◌≤◌, List, [], length, take, Option, None, Some, refl, sym, ap, subst, arith}
+use Rattle.std.proofs.lemmas.List.{take_all}
+use Rattle.gopass_base.specs.Text.{Text}
+use Rattle.gopass_base.specs.Faults.{Rose}
+use Rattle.disk_model.specs.Disk.{Rests}
+use Rattle.disk_model.specs.Files.{Files}
+use Rattle.cipher_port.specs.Tool.{Opens}
+use Rattle.store_core.specs.State.{State, StandsFor}
+use Rattle.store_core.specs.Said.{Said, Plan}
+use Rattle.store_core.specs.Events.{Events, calm, refusing, Cause, TheDisk, Memory, Stop}
+use Rattle.store_core.specs.Moment.{Faults, Moment}
+use Rattle.store_core.specs.Performs.{IsTied, Goes, Performs, cut, answered, stop_said}
+
+-- nothing of the store is changed, and no count of faults fell
+pub record Still (old new : Moment) : Type 0 where
+  pub rests : Rests old.view new.view
+  pub commits : new.commits ≡ old.commits
+  pub tools_later : old.faults.tools ≤ new.faults.tools
+
+pub still_same : (m : Moment) → Still m m
+still_same m = record { rests = record { files = refl }; commits = refl; tools_later = omega arith }
+
+cause_in : Option Stop → Cause
+cause_in None = Memory
+cause_in (Some stop) = stop.cause
+
+no_stop : (n : ℕ) → ◌≡◌ {A = Option Stop} None (Some (record { cause = TheDisk; commits = n })) → ⊥
+no_stop n e = cc
+
+same_cause : (cause : Cause) (n m : ℕ) → ◌≡◌ {A = Option Stop} (Some (record { cause = cause; commits = n })) (Some (record { cause = TheDisk; commits = m })) → cause ≡ TheDisk
+unfolding cause_in
+same_cause cause n m e = ap cause_in e
+
+not_the_disk : (n m : ℕ) → ◌≡◌ {A = Option Stop} (Some (record { cause = Memory; commits = n })) (Some (record { cause = TheDisk; commits = m })) → ⊥
+not_the_disk n m e = let f : Memory ≡ TheDisk = same_cause Memory n m e in cc
+
+-- nothing failed
+pub calm_tied : (old new : Faults) → old.tools ≤ new.tools → IsTied old new calm None
+calm_tied old new later = record { tools = omega (arith, later); disk = λ n e. absurd (no_stop n e) }
+
+-- a tool failed for one name
+pub refusing_tied : (old new : Faults) (name : Text) → Rose old.tools new.tools → IsTied old new (refusing name) None
+refusing_tied old new name rose = record { tools = omega (arith, rose); disk = λ n e. absurd (no_stop n e) }
+
+pub stopped_tied : (old new : Faults) (cause : Cause) → old.tools ≤ new.tools → (cause ≡ TheDisk → Rose old.disk new.disk) → IsTied old new calm (Some (record { cause = cause; commits = 0 }))
+stopped_tied old new cause later tie = record { tools = omega (arith, later); disk = λ n e. tie (same_cause cause 0 n e) }
+
+module _ (opens : Opens) (root : Text) (start : State) (plan : Events → Plan) (old new : Moment) (s : StandsFor opens root old.view.files start) (still : Still old new) where
+  goes_still : (states : List State) → Goes opens root start states 0 old new
+  goes_still states = record {
+    within = omega arith;
+    counted = record { least = omega (arith, still.commits); most = omega (arith, still.commits) };
+    state = λ free. subst (λ (f : Files). StandsFor opens root f start) (sym still.rests.files) s;
+    still = λ e free. still.rests;
+  }
+
+  -- nothing is changed, and the plan has no states
+  pub quiet : (events : Events) (said : Said) (calls : ℕ) → IsTied old.faults new.faults events None → new.calls ≤ old.calls + calls
+      → plan events ≡ record { said = said; states = []; calls = calls; records = [] } → Performs opens root plan start old new said
+  quiet events said calls tied few is = record {
+    events = events;
+    stop = None;
+    tied = tied;
+    says = sym (ap (λ (p : Plan). p.said) is);
+    goes = subst (λ (p : Plan). Goes opens root start p.states (length p.states) old new) (sym is) (goes_still []);
+    calls = omega (arith, few, ap (λ (p : Plan). p.calls) is);
+  }
+
+  -- the disk or want of memory stopped it before any commit
+  pub quiet_stop : (cause : Cause) → (cause ≡ TheDisk → Rose old.faults.disk new.faults.disk) → new.calls ≤ old.calls + (plan calm).calls → Performs opens root plan start old new (stop_said cause)
+  quiet_stop cause tie few = record {
+    events = calm;
+    stop = Some (record { cause = cause; commits = 0 });
+    tied = stopped_tied old.faults new.faults cause still.tools_later tie;
+    says = refl;
+    goes = goes_still (take (0 + 1) (plan calm).states);
+    calls = few;
+  }
+
+-- ---- want of memory behind the command: the same states, and another answer
+
+cut_again : (stop : Option Stop) (p : Plan) → (cut stop p).states ≡ take (answered stop p + 1) p.states
+cut_again None p = sym (take_all (length p.states + 1) p.states (omega arith))
+cut_again (Some stop) p = refl
+
+pub wants_memory : (opens : Opens) (root : Text) (start : State) (plan : Events → Plan) (old new : Moment) (said : Said)
+    → Performs opens root plan start old new said → Performs opens root plan start old new (stop_said Memory)
+wants_memory opens root start plan old new said p = record {
+  events = p.events;
+  stop = Some (record { cause = Memory; commits = answered p.stop (plan p.events) });
+  tied = record { tools = p.tied.tools; disk = λ n e. absurd (not_the_disk (answered p.stop (plan p.events)) n e) };
+  says = refl;
+  goes = subst (λ (states : List State). Goes opens root start states (answered p.stop (plan p.events)) old new) (cut_again p.stop (plan p.events)) p.goes;
+  calls = p.calls;
+}

@@ -1,0 +1,34 @@
+-- What the function of a command ensures.
+use Rattle.std.specs.Prelude.{◌≡◌, ◌≢◌, ℕ, ◌+◌, ◌≤◌, IsFalse}
+use Rattle.gopass_base.specs.Faults.{Rose}
+use Rattle.disk_model.specs.declared.disk.Disk.{Ghosts}
+use Rattle.cipher_port.specs.Tool.{Ring}
+use Rattle.store_core.specs.declared.store.Store.{Store}
+use Rattle.store_core.specs.State.{State, StandsFor}
+use Rattle.store_core.specs.Said.{Said, Plan}
+use Rattle.store_core.specs.Events.{Events}
+use Rattle.store_core.specs.Moment.{Faults, Tools, moment_of}
+use Rattle.store_core.specs.Performs.{Performs}
+
+-- where disk and tools tell: for their ring, and each state that the files stand for, the command performs what is planned
+abbrev pub Does : {D : Type 0} {G : Ghosts D} → (Ring → State → Events → Plan) → (old new : Store D G) → (before after : Tools) → Said → Type 0
+Does {G = G} plan old new before after said =
+    G.meaning.tells → before.tells → (ring : Ring) → before.have ring → (start : State)
+    → StandsFor before.opens old.vault.root (G.meaning.view old.vault.disk).files start
+    → Performs before.opens old.vault.root (plan ring start) start (moment_of old before) (moment_of new after) said
+
+-- no count falls, and a fault is answered only where its count rose; that of a sink is not, since no sink is asked
+pub record HasCauses (old new : Faults) (status : ℕ) : Type 0 where
+  pub disk_later : old.disk ≤ new.disk
+  pub tools_later : old.tools ≤ new.tools
+  pub tool : status ≡ 11 → Rose old.tools new.tools
+  pub disk : status ≡ 12 → Rose old.disk new.disk
+  pub no_sink : status ≢ 16
+
+-- told or not: the causes of the status, at most so many calls of tools, and what no command changes
+pub record Keeps {D : Type 0} {G : Ghosts D} (most : ℕ) (old new : Store D G) (before after : Tools) (status : ℕ) : Type 0 where
+  pub causes : HasCauses (moment_of old before).faults (moment_of new after).faults status
+  pub calls : after.calls ≤ before.calls + most
+  pub free : status ≢ 12 → status ≢ 14 → IsFalse new.vault.stuck
+  pub root : new.vault.root ≡ old.vault.root
+  pub rings : (ring : Ring) → before.have ring → after.have ring

@@ -1,0 +1,62 @@
+-- A command does what is planned.
+use Rattle.std.specs.Prelude.{◌≡◌, ℕ, zero, suc, ◌+◌, ◌-◌, ◌^◌, ◌≤◌, min, length, take, codes, List, [], ◌∷◌, Option, None, Some, IsFalse}
+use Rattle.gopass_base.specs.Text.{Text}
+use Rattle.gopass_base.specs.Faults.{Rose}
+use Rattle.disk_model.specs.Disk.{Rests}
+use Rattle.cipher_port.specs.Tool.{Opens}
+use Rattle.store_core.specs.State.{State, StandsFor}
+use Rattle.store_core.specs.Said.{Said, Plan, refused, unsaid}
+use Rattle.store_core.specs.Events.{Events, named, Cause, TheDisk, Memory, Stop}
+use Rattle.store_core.specs.Moment.{Faults, Moment}
+
+-- a count that stands at its last value rose by n, and by no more
+pub record Counted (before n now : ℕ) : Type 0 where
+  pub least : min (before + n) (2 ^ 64 - 1) ≤ now
+  pub most : now ≤ before + n
+
+-- a count that stands at its last value rose by n at least
+abbrev pub RoseBy : (before n now : ℕ) → Type 0
+RoseBy before n now = min (before + n) (2 ^ 64 - 1) ≤ now
+
+-- each part of the events, and a stop, is tied to what happened: a tool failed for each name, and the disk for its stop
+pub record IsTied (old new : Faults) (events : Events) (stop : Option Stop) : Type 0 where
+  pub tools : RoseBy old.tools (length (named events)) new.tools
+  pub disk : (n : ℕ) → stop ≡ Some (record { cause = TheDisk; commits = n }) → Rose old.disk new.disk
+
+-- what is said where a turn stopped
+abbrev pub stop_said : Cause → Said
+stop_said TheDisk = refused 12 (codes "the disk failed")
+stop_said Memory = unsaid
+
+-- a stop cuts a plan off: of its states there are those that were answered, and the next
+abbrev pub cut : Option Stop → Plan → Plan
+cut None plan = plan
+cut (Some stop) plan = record { said = stop_said stop.cause; states = take (stop.commits + 1) plan.states; calls = plan.calls; records = [] }
+
+-- the number of commits that were answered
+abbrev pub answered : Option Stop → Plan → ℕ
+answered None plan = length plan.states
+answered (Some stop) plan = stop.commits
+
+-- the n-th state passed, from 0 for the start; the last one beyond the end
+abbrev pub state_at : State → List State → ℕ → State
+state_at start states zero = start
+state_at start [] (suc n) = start
+state_at start (s ∷ states) (suc n) = state_at s states n
+
+-- the store goes through these states, and n commits are answered: the files are those of the n-th state, and without a
+-- commit nothing changes
+pub record Goes (opens : Opens) (root : Text) (start : State) (states : List State) (n : ℕ) (old new : Moment) : Type 0 where
+  pub within : n ≤ length states
+  pub counted : Counted old.commits n new.commits
+  pub state : IsFalse new.stuck → StandsFor opens root new.view.files (state_at start states n)
+  pub still : n ≡ 0 → IsFalse new.stuck → Rests old.view new.view
+
+-- the command does what is planned for some events, tied to what happened, up to a stop
+pub record Performs (opens : Opens) (root : Text) (plan : Events → Plan) (start : State) (old new : Moment) (said : Said) : Type 0 where
+  pub events : Events
+  pub stop : Option Stop
+  pub tied : IsTied old.faults new.faults events stop
+  pub says : said ≡ (cut stop (plan events)).said
+  pub goes : Goes opens root start (cut stop (plan events)).states (answered stop (plan events)) old new
+  pub calls : new.calls ≤ old.calls + (plan events).calls

@@ -1,0 +1,42 @@
+-- What is said of each refusal.
+use Rattle.std.specs.Prelude.{ℕ, ◌==◌, codes, Result, Ok, Err, if◌then◌else◌}
+use Rattle.gopass_base.specs.Text.{Text}
+use Rattle.disk_model.specs.declared.disk.DiskFault.{DiskFault}
+use Rattle.disk_model.specs.declared.disk.DiskFault.TheVariants.{Failed as DiskFailed, NoMemory as DiskNoMemory}
+use Rattle.store_core.specs.declared.refusal.Refusal.{Refusal}
+use Rattle.store_core.specs.declared.refusal.Refusal.TheVariants.{NotFound, IsFolder, NoKey, NotSealed, Tool, Disk, NoMemory}
+use Rattle.store_core.specs.Said.{Said, granted, refused, unsaid}
+use Rattle.store_core.specs.Texts.{not_in_the_store, is_a_folder, no_key, not_sealed, tool_failed}
+
+-- what a fault of the disk makes a command answer
+abbrev pub refusal_by_disk : DiskFault → Refusal
+refusal_by_disk DiskFailed = Disk
+refusal_by_disk DiskNoMemory = NoMemory
+
+abbrev pub status_of : Refusal → ℕ
+status_of NotFound = 3
+status_of IsFolder = 3
+status_of (NoKey name) = 8
+status_of (NotSealed name) = 8
+status_of (Tool name) = 11
+status_of Disk = 12
+status_of NoMemory = 14
+
+-- the text, where the command was asked for this
+abbrev pub text_of : Text → Refusal → Text
+text_of asked NotFound = not_in_the_store asked
+text_of asked IsFolder = is_a_folder asked
+text_of asked (NoKey name) = no_key name
+text_of asked (NotSealed name) = not_sealed name
+text_of asked (Tool name) = tool_failed name
+text_of asked Disk = codes "the disk failed"
+text_of asked NoMemory = codes "out of memory"
+
+-- what is said of a refusal; want of memory has no bytes
+abbrev pub refusal_said : Text → Refusal → Said
+refusal_said asked refusal = if status_of refusal == 14 then unsaid else refused (status_of refusal) (text_of asked refusal)
+
+-- what is said of an outcome, by what is printed of a good one
+abbrev pub said_by : {T : Type 0} → Text → (T → Text) → Result T Refusal → Said
+said_by asked printed (Ok x) = granted (printed x)
+said_by asked printed (Err refusal) = refusal_said asked refusal

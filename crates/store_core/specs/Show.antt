@@ -1,0 +1,37 @@
+-- The plan of `show`.
+use Rattle.std.specs.Prelude.{Bool, List, Option, None, Some, if◌then◌else◌}
+use Rattle.std.specs.List.{list_any}
+use Rattle.std.specs.FinMap as map
+use Rattle.gopass_base.specs.Text.{Text}
+use Rattle.mount_table.specs.MountOf.{holds}
+use Rattle.cipher_port.specs.Tool.{Ring, holds_one_of}
+use Rattle.store_core.specs.State.{State, Cell, Sealed, Broken}
+use Rattle.store_core.specs.Said.{Said, Plan, granted, refused, answers, answers_by_tool}
+use Rattle.store_core.specs.Texts.{not_in_the_store, is_a_folder, no_key, not_sealed, tool_failed}
+use Rattle.store_core.specs.Events.{Events, is_refused}
+
+-- the names of the secrets, in the order of their bytes
+abbrev pub names_of : State → List Text
+names_of state = map.keys state.rows
+
+-- whether one of these names lies in the folder
+abbrev pub holds_one : Text → List Text → Bool
+holds_one folder names = list_any (λ name. holds folder name) names
+
+-- what is said of a name that has no secret: whether it is that of a folder
+abbrev pub missing : Text → List Text → Said
+missing name names = refused 3 (if holds_one name names then is_a_folder name else not_in_the_store name)
+
+-- the body, where a key is held for it
+abbrev pub shown : Ring → Text → Cell → Said
+shown ring name (Sealed content) = if holds_one_of ring content.to then granted content.body else refused 8 (no_key name)
+shown ring name (Broken bytes) = refused 8 (not_sealed name)
+
+-- what is planned of a secret, or of none
+abbrev pub show_row : Ring → Text → List Text → Events → Option Cell → Plan
+show_row ring name names events None = answers (missing name names)
+show_row ring name names events (Some cell) = answers_by_tool (if is_refused name events then refused 11 (tool_failed name) else shown ring name cell)
+
+-- `show` prints the body of a secret, and changes nothing
+abbrev pub plan_show : Ring → Text → State → Events → Plan
+plan_show ring name state events = show_row ring name (names_of state) events (map.get state.rows name)
