@@ -1,5 +1,6 @@
 pub mod Outcomes
-pub mod ShowLemmas
-pub mod AnswerLemmas
 pub mod PrintLemmas
 pub mod RingLemmas
+pub mod TurnLemmas
+pub mod RunLemmas
+pub mod ListingLemmas

@@ -1,17 +1,65 @@
--- What refuses the opening of a store.
-use Rattle.std.specs.Prelude.{List, [], ◌∷◌, Option, None, Some, is_some, if◌then◌else◌}
+-- What a run says that opens a store.
+use Rattle.std.specs.Prelude.{◌≡◌, ◌≢◌, ◌⊎◌, None, Err}
 use Rattle.gopass_base.specs.Text.{Text}
-use Rattle.mount_table.specs.Paths.{path_in, service_text}
-use Rattle.mount_table.specs.declared.service.ServiceFile.{ServiceFile}
-use Rattle.mount_table.specs.declared.service.ServiceFile.TheVariants.{Journal, Mounts, Pending}
 use Rattle.disk_model.specs.Files.{Files}
+use Rattle.pending_journal.specs.Opened.{journal_path}
+use Rattle.pending_journal.specs.declared.vault.VaultFault.{VaultFault}
+use Rattle.pending_journal.specs.declared.vault.VaultFault.TheVariants.{BadJournal, Disk as NoVaultDisk, NoMemory as NoVaultRoom}
+use Rattle.cipher_port.specs.Tool.{Opens, Ring}
+use Rattle.command_words.specs.declared.command.Command.{Command}
+use Rattle.store_core.specs.declared.fault.StoreFault.{StoreFault}
+use Rattle.store_core.specs.declared.fault.StoreFault.TheVariants.{BadFile, Full, Disk, NoMemory}
+use Rattle.store_core.specs.declared.opening.Found.{Found}
+use Rattle.store_core.specs.Opening.{IsFound, Opens as OpensStore}
+use Rattle.store_core.specs.State.{State, StandsFor}
+use Rattle.store_core.specs.Events.{Events, TheDisk}
+use Rattle.store_core.specs.Performs.{stop_said}
+use Rattle.store_core.specs.Said.{Said, refused, unsaid}
+use Rattle.store_core.specs.Texts.{bad_line, limit_passed}
+use Rattle.gopass_cli.specs.Plan.{plan_of}
 
--- the files that are looked for, in this order
-abbrev pub looked_for : List ServiceFile
-looked_for = Journal ∷ Mounts ∷ Pending ∷ []
+-- a journal is there; it is bad at line 1, since it is not read yet
+pub record SaysOfJournal (root : Text) (files : Files) (said : Said) : Type 0 where
+  pub there : files (journal_path root) ≢ None
+  pub says : said ≡ refused 6 (bad_line (journal_path root) 1)
 
--- the path of the first of these that is there
-abbrev pub first_there : Text → Files → List ServiceFile → Option Text
-first_there root files [] = None
-first_there root files (file ∷ more) =
-    if is_some (files (path_in root (service_text file))) then Some (path_in root (service_text file)) else first_there root files more
+-- what is said of a vault that is refused
+abbrev pub vault_said : Text → VaultFault → Said
+vault_said root (BadJournal line) = refused 6 (bad_line (journal_path root) line)
+vault_said root NoVaultDisk = stop_said TheDisk
+vault_said root NoVaultRoom = unsaid
+
+-- what is said of a store that is refused
+abbrev pub fault_said : StoreFault → Said
+fault_said (BadFile path line) = refused 6 (bad_line path line)
+fault_said (Full limit) = refused 10 (limit_passed limit)
+fault_said Disk = stop_said TheDisk
+fault_said NoMemory = unsaid
+
+-- the files are the reason
+abbrev pub IsOfFiles : StoreFault → Type 0
+IsOfFiles (BadFile path line) = Unit {0}
+IsOfFiles (Full limit) = Unit {0}
+IsOfFiles Disk = ⊥
+IsOfFiles NoMemory = ⊥
+
+-- no journal is there, and the files of the store refuse its opening
+pub record SaysOfFault (root : Text) (files : Files) (said : Said) : Type 0 where
+  pub no_journal : files (journal_path root) ≡ None
+  pub fault : StoreFault
+  pub of_files : IsOfFiles fault
+  pub refuses : OpensStore root files (Err fault)
+  pub says : said ≡ fault_said fault
+
+-- the store opens, and what is planned in the state of its files is said
+pub record SaysOpened (opens : Opens) (root : Text) (files : Files) (ring : Ring) (command : Command) (events : Events) (said : Said) : Type 0 where
+  pub no_journal : files (journal_path root) ≡ None
+  pub found : Found
+  pub finds : IsFound root files found
+  pub state : State
+  pub stands : StandsFor opens root files state
+  pub says : said ≡ (plan_of ring command state events).said
+
+-- what is said of a command on these files, for what the outside gave
+abbrev pub SaysOfCommand : Opens → Text → Files → Ring → Command → Events → Said → Type 0
+SaysOfCommand opens root files ring command events said = SaysOfJournal root files said ⊎ (SaysOfFault root files said ⊎ SaysOpened opens root files ring command events said)

@@ -2,14 +2,14 @@
 use Rattle.std.specs.Prelude.{◌≢◌, ℕ, List, sum_by}
 use Rattle.gopass_base.specs.Text.{Text}
 use Rattle.disk_model.specs.Disk.{DiskMeaning}
-use Rattle.cipher_port.specs.Tool.{ToolMeaning}
+use Rattle.cipher_port.specs.Tool.{Ring, ToolMeaning}
 use Rattle.io_ports.specs.Sink.{SinkMeaning}
+use Rattle.store_core.specs.Events.{calm}
+use Rattle.store_core.specs.Moment.{HaveRing}
+use Rattle.store_core.specs.Said.{Said}
 use Rattle.gopass_cli.specs.Causes.{AllFaults, HasAllCauses, NoneRose}
-use Rattle.gopass_cli.specs.Events.{calm, moment_of}
 use Rattle.gopass_cli.specs.Printed.{Prints, PrintsAll, printed, stream_of}
-use Rattle.gopass_cli.specs.Run.{Runs, RunSays}
-use Rattle.gopass_cli.specs.Said.{Said}
-use Rattle.gopass_cli.specs.Told.{Told}
+use Rattle.gopass_cli.specs.Run.{Runs, RunSays, faults_of}
 
 -- all that a run is given of the outside
 pub record Outside (D C O E : Type 0) : Type 0 where
@@ -44,17 +44,21 @@ module _ {D C O E : Type 0} (means : Meanings D C O E) where
   abbrev pub RanWithCauses : (old new : Outside D C O E) → ℕ → Type 0
   RanWithCauses old new status = HasAllCauses (all_faults old) (all_faults new) status
 
+  -- where disk and tools tell
+  abbrev pub Told : Outside D C O E → (Ring → Type 0) → Type 0
+  Told old P = means.disk.tells → means.tool.tells → (ring : Ring) → HaveRing means.tool old.tools ring → P ring
+
   -- where disk and tools tell: the run says what is defined for some events, tied to what happened, and prints it
   abbrev pub Ran : List Text → Text → (old new : Outside D C O E) → ℕ → Type 0
-  Ran words root old new status = Told means.disk means.tool root old.disk old.tools (λ ring state.
+  Ran words root old new status = Told old (λ ring.
       (said : Said)
-      × Runs (RunSays words root (means.disk.view old.disk).files ring state) (moment_of means.disk old.disk means.tool old.tools) (moment_of means.disk new.disk means.tool new.tools) said
+      × Runs (RunSays words means.tool.opens root (means.disk.view old.disk).files ring) (faults_of means.disk old.disk means.tool old.tools) (faults_of means.disk new.disk means.tool new.tools) said
       × Prints (printed said) status (stream_of means.out old.out) (stream_of means.out new.out) (stream_of means.err old.err) (stream_of means.err new.err))
 
   -- where nothing failed either, and there was memory: the run says what is defined where nothing fails, and all of it is printed
   abbrev pub RanCalmly : List Text → Text → (old new : Outside D C O E) → ℕ → Type 0
-  RanCalmly words root old new status = Told means.disk means.tool root old.disk old.tools (λ ring state.
+  RanCalmly words root old new status = Told old (λ ring.
       NoneRose (all_faults old) (all_faults new) → status ≢ 14 →
       (said : Said)
-      × RunSays words root (means.disk.view old.disk).files ring state calm said
+      × RunSays words means.tool.opens root (means.disk.view old.disk).files ring calm said
       × PrintsAll (printed said) status (stream_of means.out old.out) (stream_of means.out new.out) (stream_of means.err old.err) (stream_of means.err new.err))

@@ -1,11 +1,17 @@
 -- Replies as what they say.
-use Rattle.std.specs.Prelude.{◌≡◌, ◌⊎◌}
+use Rattle.std.specs.Prelude.{◌≡◌, ◌≢◌, ◌⊎◌, ℕ}
+use Rattle.store_core.specs.Said.{Said, unsaid}
 use Rattle.gopass_cli.specs.declared.reply.Reply.{Reply}
-use Rattle.gopass_cli.specs.Said.{Said, unsaid}
 
 abbrev pub said_in : Reply → Said
 said_in reply = record { status = reply.status; out = reply.out.items; err = reply.err.items }
 
 -- this is said, or there was no memory for it
 abbrev pub Says : Said → Said → Type 0
-Says meant said = (said ≡ meant) ⊎ (said ≡ unsaid)
+Says wanted said = (said ≡ wanted) ⊎ (said ≡ unsaid)
+
+-- the status tells no fault of the outside
+pub record IsOwn (status : ℕ) : Type 0 where
+  pub no_tool : status ≢ 11
+  pub no_disk : status ≢ 12
+  pub no_sink : status ≢ 16

@@ -1,138 +1,185 @@
 //! The answer to the words of a command line.
 
-ghost use Rattle.std.specs.Prelude.{◌≡◌, ◌≤◌, ℕ, List, map, string_bytes, vec_len};
-ghost use Rattle.disk_model.specs.Disk.{Rests, View};
+ghost use Rattle.std.specs.Prelude.{◌≡◌, ◌≤◌, IsFalse, None, map, string_bytes, vec_len};
+ghost use Rattle.disk_model.specs.Disk.{Rests};
+ghost use Rattle.pending_journal.specs.Opened.{journal_path};
 ghost use Rattle.cipher_port.specs.Tool.{Ring};
-ghost use Rattle.gopass_cli.specs.Causes.{HasCauses, faults_of};
-ghost use Rattle.gopass_cli.specs.Found.{HaveRing};
-ghost use Rattle.gopass_cli.specs.Opening.{first_there, looked_for};
-ghost use Rattle.gopass_cli.specs.Replies.{said_in};
-ghost use Rattle.gopass_cli.specs.Run.{RunSays, SaysOfCommand, SaysOpened, SaysOfWord};
-ghost use Rattle.gopass_cli.specs.Shown.{Shows};
-ghost use Rattle.gopass_cli.specs.Told.{Answers};
+ghost use Rattle.store_core.specs.State.{State, StandsFor};
+ghost use Rattle.store_core.specs.Moment.{HaveRing};
+ghost use Rattle.store_core.specs.Does.{HasCauses};
+ghost use Rattle.store_core.specs.Events.{TheDisk};
+ghost use Rattle.store_core.specs.Performs.{stop_said};
+ghost use Rattle.gopass_cli.specs.Opening.{SaysOfCommand, fault_said, vault_said};
+ghost use Rattle.gopass_cli.specs.Plan.{plan_of};
+ghost use Rattle.gopass_cli.specs.Replies.{said_in, Says};
+ghost use Rattle.gopass_cli.specs.Run.{Answers, RunSays, faults_of};
 
-use crate::refusal::Refusal;
-use crate::reply::{Reply, grant, refuse};
-use crate::showing::{open, show};
+use crate::reply::{Reply, no_memory, refuse_limit, refuse_line, refuse_with, refuse_words};
+use crate::turns::{Request, turn};
 use cipher_port::Cipher;
 use command_words::{Command, WordsFault, read_words};
 use disk_model::Disk;
-use mount_table::{DirPath, Name, NameFault};
+use mount_table::{DirPath, ServiceFile};
+use pending_journal::{Vault, VaultFault, VaultOpened};
 use std::alloc::Global;
+use store_core::{Store, StoreFault, StoreOpened};
 
-/// The answer of `show` for a name.
-fn answer_name<D: Disk, C: Cipher>(
-    alloc: Global,
-    root: &DirPath,
-    name: &Name,
-    disk: &mut D,
-    tools: &mut Vec<C>,
-) -> Reply
-    requires { 1 ≤ vec_len tools.old }
-    ensures planned { Shows D.meaning C.meaning root.now name.now disk.old disk.new tools.old.items tools.new.items
-        (said_in result) }
-    ensures rests { D.meaning.tells → Rests (D.meaning.view disk.old) (D.meaning.view disk.new) }
-    ensures rings { (ring : Ring) → HaveRing C.meaning tools.old.items ring → HaveRing C.meaning tools.new.items ring }
-    ensures count { vec_len tools.new ≡ vec_len tools.old }
-    ensures causes { HasCauses (faults_of D.meaning disk.old C.meaning tools.old.items)
-        (faults_of D.meaning disk.new C.meaning tools.new.items) result.status }
+/// An answer, and the disk again.
+pub(crate) struct Answered<D> {
+    pub(crate) reply: Reply,
+    pub(crate) disk: D,
+}
+
+/// The answer where the disk failed.
+fn refuse_disk(alloc: Global) -> Reply
+    ensures { Says (stop_said TheDisk) (said_in result) }
 {
-    match show(alloc, root, name, disk, tools) {
-        Ok(body) => grant(alloc, body),
-        Err(refusal) => refuse(alloc, &refusal, name.text()),
+    refuse_with(alloc, 12, "the disk failed")
+}
+
+/// The answer where a vault is refused.
+fn refuse_vault(alloc: Global, root: &DirPath, fault: VaultFault) -> Reply
+    ensures { Says (vault_said root.now fault) (said_in result) }
+{
+    match fault {
+        VaultFault::BadJournal(line) => match root.service_file(alloc, ServiceFile::Journal) {
+            Ok(path) => refuse_line(alloc, path.text(), line),
+            Err(_) => no_memory(alloc),
+        },
+        VaultFault::Disk => refuse_disk(alloc),
+        VaultFault::NoMemory => no_memory(alloc),
     }
 }
 
-/// The answer of `show` for a word.
-fn answer_word<D: Disk, C: Cipher>(
-    alloc: Global,
-    root: &DirPath,
-    word: &str,
-    disk: &mut D,
-    tools: &mut Vec<C>,
-) -> Reply
-    requires { 1 ≤ vec_len tools.old }
-    ensures runs { Answers D.meaning C.meaning root.now disk.old disk.new tools.old.items tools.new.items
-        (λ ring state. SaysOpened (first_there root.now (D.meaning.view disk.old).files looked_for) ring word.now state) (said_in result) }
-    ensures rests { D.meaning.tells → Rests (D.meaning.view disk.old) (D.meaning.view disk.new) }
-    ensures rings { (ring : Ring) → HaveRing C.meaning tools.old.items ring → HaveRing C.meaning tools.new.items ring }
-    ensures count { vec_len tools.new ≡ vec_len tools.old }
-    ensures causes { HasCauses (faults_of D.meaning disk.old C.meaning tools.old.items)
-        (faults_of D.meaning disk.new C.meaning tools.new.items) result.status }
+/// The answer where a store is refused.
+fn refuse_store(alloc: Global, fault: StoreFault) -> Reply
+    ensures { Says (fault_said fault) (said_in result) }
 {
-    match open(alloc, root, disk) {
-        Ok(()) => answer_opened(alloc, root, word, disk, tools),
-        Err(refusal) => refuse(alloc, &refusal, word),
+    match fault {
+        StoreFault::BadFile(path, line) => refuse_line(alloc, path.text(), line),
+        StoreFault::Full(limit) => refuse_limit(alloc, limit),
+        StoreFault::Disk => refuse_disk(alloc),
+        StoreFault::NoMemory => no_memory(alloc),
     }
 }
 
-/// The answer of `show` for a word, once the store is open.
-fn answer_opened<D: Disk, C: Cipher>(
+/// The answer of a command on an open store.
+fn answer_open<D: Disk + Send, C: Cipher + Send>(
     alloc: Global,
-    root: &DirPath,
-    word: &str,
-    disk: &mut D,
+    command: Command,
+    store: Store<D>,
     tools: &mut Vec<C>,
-) -> Reply
-    requires { 1 ≤ vec_len tools.old }
-    ensures runs { Answers D.meaning C.meaning root.now disk.old disk.new tools.old.items tools.new.items
-        (λ ring state. SaysOfWord ring word.now state) (said_in result) }
-    ensures rests { D.meaning.tells → Rests (D.meaning.view disk.old) (D.meaning.view disk.new) }
+) -> Answered<D>
+    requires some { 1 ≤ vec_len tools.old }
+    requires few { vec_len tools.old ≤ 16 }
+    requires rings { C.meaning.tells → (ring : Ring) × HaveRing C.meaning tools.old.items ring }
+    requires free { IsFalse store.vault.stuck }
+    ensures answers { (state : State) → StandsFor C.meaning.opens store.vault.root (D.meaning.view store.vault.disk).files state
+        → Answers D.meaning C.meaning store.vault.disk result.disk tools.old.items tools.new.items
+        (λ ring events said. said ≡ (plan_of ring command state events).said) (said_in result.reply) }
+    ensures rests { D.meaning.tells → Rests (D.meaning.view store.vault.disk) (D.meaning.view result.disk) }
     ensures rings { (ring : Ring) → HaveRing C.meaning tools.old.items ring → HaveRing C.meaning tools.new.items ring }
     ensures count { vec_len tools.new ≡ vec_len tools.old }
-    ensures causes { HasCauses (faults_of D.meaning disk.old C.meaning tools.old.items)
-        (faults_of D.meaning disk.new C.meaning tools.new.items) result.status }
+    ensures causes { HasCauses (faults_of D.meaning store.vault.disk C.meaning tools.old.items)
+        (faults_of D.meaning result.disk C.meaning tools.new.items) result.reply.status }
 {
-    match Name::read(alloc, word) {
-        Ok(name) => answer_name(alloc, root, &name, disk, tools),
-        Err(NameFault::Bad(bad)) => refuse(alloc, &Refusal::BadName(bad.at), word),
-        Err(NameFault::NoMemory) => refuse(alloc, &Refusal::NoMemory, word),
+    let mut store = store;
+    let request = Request {
+        command,
+        body: None,
+    };
+    let reply = turn(alloc, &mut store, &request, tools);
+    Answered {
+        reply,
+        disk: store.into_vault().into_disk(),
     }
 }
 
-/// The answer of a command.
-fn answer_command<D: Disk, C: Cipher>(
+/// The answer of a command on a vault.
+fn answer_vault<D: Disk + Send, C: Cipher + Send>(
     alloc: Global,
-    root: &DirPath,
-    command: &Command,
-    disk: &mut D,
+    command: Command,
+    vault: Vault<D>,
     tools: &mut Vec<C>,
-) -> Reply
-    requires { 1 ≤ vec_len tools.old }
-    ensures runs { Answers D.meaning C.meaning root.now disk.old disk.new tools.old.items tools.new.items
-        (λ ring state. SaysOfCommand command.now (first_there root.now (D.meaning.view disk.old).files looked_for) ring state) (said_in result) }
-    ensures rests { D.meaning.tells → Rests (D.meaning.view disk.old) (D.meaning.view disk.new) }
+) -> Answered<D>
+    requires some { 1 ≤ vec_len tools.old }
+    requires few { vec_len tools.old ≤ 16 }
+    requires rings { C.meaning.tells → (ring : Ring) × HaveRing C.meaning tools.old.items ring }
+    requires free { IsFalse vault.stuck }
+    ensures answers { (D.meaning.view vault.disk).files (journal_path vault.root) ≡ None
+        → Answers D.meaning C.meaning vault.disk result.disk tools.old.items tools.new.items
+        (λ ring. SaysOfCommand C.meaning.opens vault.root (D.meaning.view vault.disk).files ring command) (said_in result.reply) }
+    ensures rests { D.meaning.tells → Rests (D.meaning.view vault.disk) (D.meaning.view result.disk) }
     ensures rings { (ring : Ring) → HaveRing C.meaning tools.old.items ring → HaveRing C.meaning tools.new.items ring }
     ensures count { vec_len tools.new ≡ vec_len tools.old }
-    ensures causes { HasCauses (faults_of D.meaning disk.old C.meaning tools.old.items)
-        (faults_of D.meaning disk.new C.meaning tools.new.items) result.status }
+    ensures causes { HasCauses (faults_of D.meaning vault.disk C.meaning tools.old.items)
+        (faults_of D.meaning result.disk C.meaning tools.new.items) result.reply.status }
 {
-    match command {
-        Command::Show { name } => answer_word(alloc, root, name, disk, tools),
-        _ => refuse(alloc, &Refusal::BadWords(0), ""),
+    match Store::open(alloc, vault) {
+        StoreOpened::Ready(store) => answer_open(alloc, command, store, tools),
+        StoreOpened::Refused(fault, vault) => Answered {
+            reply: refuse_store(alloc, fault),
+            disk: vault.into_disk(),
+        },
+    }
+}
+
+/// The answer of a command on the store below the root directory.
+fn answer_command<D: Disk + Send, C: Cipher + Send>(
+    alloc: Global,
+    command: Command,
+    root: &DirPath,
+    disk: D,
+    tools: &mut Vec<C>,
+) -> Answered<D>
+    requires some { 1 ≤ vec_len tools.old }
+    requires few { vec_len tools.old ≤ 16 }
+    requires rings { C.meaning.tells → (ring : Ring) × HaveRing C.meaning tools.old.items ring }
+    ensures answers { Answers D.meaning C.meaning disk result.disk tools.old.items tools.new.items
+        (λ ring. SaysOfCommand C.meaning.opens root.now (D.meaning.view disk).files ring command) (said_in result.reply) }
+    ensures rests { D.meaning.tells → Rests (D.meaning.view disk) (D.meaning.view result.disk) }
+    ensures rings { (ring : Ring) → HaveRing C.meaning tools.old.items ring → HaveRing C.meaning tools.new.items ring }
+    ensures count { vec_len tools.new ≡ vec_len tools.old }
+    ensures causes { HasCauses (faults_of D.meaning disk C.meaning tools.old.items)
+        (faults_of D.meaning result.disk C.meaning tools.new.items) result.reply.status }
+{
+    match Vault::open(alloc, disk, root) {
+        VaultOpened::Ready(vault) => answer_vault(alloc, command, vault, tools),
+        VaultOpened::Refused(fault, disk) => Answered {
+            reply: refuse_vault(alloc, root, fault),
+            disk,
+        },
     }
 }
 
 /// The answer to the words of a command line.
-pub(crate) fn answer<D: Disk, C: Cipher>(
+pub(crate) fn answer<D: Disk + Send, C: Cipher + Send>(
     alloc: Global,
     words: &[String],
     root: &DirPath,
-    disk: &mut D,
+    disk: D,
     tools: &mut Vec<C>,
-) -> Reply
-    requires { 1 ≤ vec_len tools.old }
-    ensures runs { Answers D.meaning C.meaning root.now disk.old disk.new tools.old.items tools.new.items
-        (λ ring state. RunSays (map string_bytes words.now) root.now (D.meaning.view disk.old).files ring state) (said_in result) }
-    ensures rests { D.meaning.tells → Rests (D.meaning.view disk.old) (D.meaning.view disk.new) }
+) -> Answered<D>
+    requires some { 1 ≤ vec_len tools.old }
+    requires few { vec_len tools.old ≤ 16 }
+    requires rings { C.meaning.tells → (ring : Ring) × HaveRing C.meaning tools.old.items ring }
+    ensures answers { Answers D.meaning C.meaning disk result.disk tools.old.items tools.new.items
+        (RunSays (map string_bytes words.now) C.meaning.opens root.now (D.meaning.view disk).files) (said_in result.reply) }
+    ensures rests { D.meaning.tells → Rests (D.meaning.view disk) (D.meaning.view result.disk) }
     ensures rings { (ring : Ring) → HaveRing C.meaning tools.old.items ring → HaveRing C.meaning tools.new.items ring }
     ensures count { vec_len tools.new ≡ vec_len tools.old }
-    ensures causes { HasCauses (faults_of D.meaning disk.old C.meaning tools.old.items)
-        (faults_of D.meaning disk.new C.meaning tools.new.items) result.status }
+    ensures causes { HasCauses (faults_of D.meaning disk C.meaning tools.old.items)
+        (faults_of D.meaning result.disk C.meaning tools.new.items) result.reply.status }
 {
     match read_words(alloc, words) {
-        Ok(command) => answer_command(alloc, root, &command, disk, tools),
-        Err(WordsFault::Bad { at }) => refuse(alloc, &Refusal::BadWords(at), ""),
-        Err(WordsFault::NoMemory) => refuse(alloc, &Refusal::NoMemory, ""),
+        Ok(command) => answer_command(alloc, command, root, disk, tools),
+        Err(WordsFault::Bad { at }) => Answered {
+            reply: refuse_words(alloc, at),
+            disk,
+        },
+        Err(WordsFault::NoMemory) => Answered {
+            reply: no_memory(alloc),
+            disk,
+        },
     }
 }

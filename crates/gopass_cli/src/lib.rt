@@ -2,12 +2,13 @@
 #![tactic(auto)]
 
 mod answers;
+mod listing;
 mod printing;
-mod refusal;
 mod reply;
 mod run;
-mod showing;
-mod state;
+mod texts;
+mod turns;
 
+pub use reply::Reply;
 pub use run::{Ended, gopass};
-pub use state::states_of_files;
+pub use turns::{Request, turn};

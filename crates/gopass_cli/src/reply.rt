@@ -1,17 +1,19 @@
 //! What a command answers.
 
-ghost use Rattle.std.specs.Prelude.{◌≡◌, ◌++◌, IfOk, string_bytes};
-ghost use Rattle.gopass_cli.specs.Said.{granted, unsaid};
-ghost use Rattle.gopass_cli.specs.Texts.{bad_words, bad_name, bad_line, err_line};
-ghost use Rattle.gopass_cli.specs.Refusals.{status_of, text_of, refusal_said};
+ghost use Rattle.std.specs.Prelude.{◌≡◌, IfOk, string_bytes};
+ghost use Rattle.gopass_base.specs.Text.{Text};
+ghost use Rattle.store_core.specs.Said.{granted, refused, unsaid};
+ghost use Rattle.store_core.specs.Texts.{bad_words, bad_name, bad_line, limit_passed, not_in_the_store};
+ghost use Rattle.store_core.specs.Refusals.{status_of, refusal_said};
 ghost use Rattle.gopass_cli.specs.Replies.{said_in, Says};
 
-use crate::refusal::Refusal;
+use crate::texts;
 use std::alloc::{AllocError, Global};
+use store_core::{Limit, Refusal};
 
-/// A status, and the bytes for standard output and standard error.
+/// A status, and the bytes for standard output and standard error. With status 14 there are none.
 #[derive(Debug, Drop)]
-pub(crate) struct Reply {
+pub struct Reply {
     pub status: u8,
     pub out: Vec<u8>,
     pub err: Vec<u8>,
@@ -21,75 +23,12 @@ fn status_of(refusal: &Refusal) -> u8
     ensures { result ≡ status_of refusal.now }
 {
     match refusal {
-        Refusal::BadWords(_) | Refusal::BadName(_) => 2,
-        Refusal::NotFound => 3,
-        Refusal::BadFile(_, _) => 6,
-        Refusal::NoKey | Refusal::NotSealed => 8,
-        Refusal::Tool => 11,
+        Refusal::NotFound | Refusal::IsFolder => 3,
+        Refusal::NoKey(_) | Refusal::NotSealed(_) => 8,
+        Refusal::Tool(_) => 11,
         Refusal::Disk => 12,
         Refusal::NoMemory => 14,
     }
-}
-
-fn joined(alloc: Global, first: &str, second: &str) -> Result<String, AllocError>
-    ensures { IfOk result (λ text. string_bytes text ≡ first.now ++ second.now) }
-{
-    let mut text = String::from_str(alloc, first)?;
-    text.push_str(second)?;
-    Ok(text)
-}
-
-fn bad_name(alloc: Global, at: usize, word: &str) -> Result<String, AllocError>
-    ensures { IfOk result (λ text. string_bytes text ≡ bad_name at word.now) }
-{
-    let place = format!(in alloc; "bad name at {at}: ")?;
-    joined(alloc, &place, word)
-}
-
-fn bad_line(alloc: Global, path: &str, line: usize) -> Result<String, AllocError>
-    ensures { IfOk result (λ text. string_bytes text ≡ bad_line path.now line) }
-{
-    let what = format!(in alloc; ": line {line} is bad")?;
-    joined(alloc, path, &what)
-}
-
-fn text_of(alloc: Global, refusal: &Refusal, name: &str) -> Result<String, AllocError>
-    ensures { IfOk result (λ text. string_bytes text ≡ text_of name.now refusal.now) }
-{
-    match refusal {
-        Refusal::BadWords(at) => bad_words(alloc, *at),
-        Refusal::BadName(at) => bad_name(alloc, *at, name),
-        Refusal::BadFile(path, line) => bad_line(alloc, path.text(), *line),
-        Refusal::NotFound => joined(alloc, name, " is not in the store"),
-        Refusal::NoKey => joined(alloc, name, ": no key"),
-        Refusal::NotSealed => joined(alloc, name, ": not sealed"),
-        Refusal::Tool => joined(alloc, name, ": the tool failed"),
-        Refusal::Disk => String::from_str(alloc, "the disk failed"),
-        Refusal::NoMemory => String::from_str(alloc, "out of memory"),
-    }
-}
-
-fn bad_words(alloc: Global, at: usize) -> Result<String, AllocError>
-    ensures { IfOk result (λ text. string_bytes text ≡ bad_words at) }
-{
-    format!(in alloc; "bad words at {at}")
-}
-
-/// The line of standard error that says the text.
-fn err_line(alloc: Global, text: &str) -> Result<Vec<u8>, AllocError>
-    ensures { IfOk result (λ line. line.items ≡ err_line text.now) }
-{
-    let mut line = b"gopass: ".to_vec(alloc)?;
-    line.extend_from_slice(text.as_bytes())?;
-    line.extend_from_slice(b"\n")?;
-    Ok(line)
-}
-
-fn line_of(alloc: Global, refusal: &Refusal, name: &str) -> Result<Vec<u8>, AllocError>
-    ensures { IfOk result (λ line. line.items ≡ err_line (text_of name.now refusal.now)) }
-{
-    let text = text_of(alloc, refusal, name)?;
-    err_line(alloc, &text)
 }
 
 /// The answer of a command that did what it was asked.
@@ -104,7 +43,7 @@ pub(crate) fn grant(alloc: Global, out: Vec<u8>) -> Reply
 }
 
 /// The answer where there is no memory. It has no bytes.
-fn no_memory(alloc: Global) -> Reply
+pub(crate) fn no_memory(alloc: Global) -> Reply
     ensures { said_in result ≡ unsaid }
 {
     Reply {
@@ -114,15 +53,11 @@ fn no_memory(alloc: Global) -> Reply
     }
 }
 
-/// The answer of a command that is refused, or that of want of memory.
-pub(crate) fn refuse(alloc: Global, refusal: &Refusal, name: &str) -> Reply
-    ensures { Says (refusal_said name.now refusal.now) (said_in result) }
+/// The answer of a command that is refused with this status and text.
+pub(crate) fn refuse_with(alloc: Global, status: u8, text: &str) -> Reply
+    ensures { Says (refused status text.now) (said_in result) }
 {
-    let status = status_of(refusal);
-    if status == 14 {
-        return no_memory(alloc);
-    }
-    match line_of(alloc, refusal, name) {
+    match texts::err_line(alloc, text) {
         Ok(err) => Reply {
             status,
             out: Vec::new(alloc),
@@ -130,4 +65,60 @@ pub(crate) fn refuse(alloc: Global, refusal: &Refusal, name: &str) -> Reply
         },
         Err(_) => no_memory(alloc),
     }
+}
+
+/// The same, where there is memory for the text.
+fn refuse_by(alloc: Global, status: u8, text: Result<String, AllocError>) -> Reply
+    ensures { (wanted : Text) → IfOk text (λ t. string_bytes t ≡ wanted) → Says (refused status wanted) (said_in result) }
+{
+    match text {
+        Ok(text) => refuse_with(alloc, status, &text),
+        Err(_) => no_memory(alloc),
+    }
+}
+
+/// The answer to words of which this one is bad.
+pub(crate) fn refuse_words(alloc: Global, at: usize) -> Reply
+    ensures { Says (refused 2 (bad_words at)) (said_in result) }
+{
+    refuse_by(alloc, 2, texts::bad_words(alloc, at))
+}
+
+/// The answer to a word that is no name or no folder from this byte on.
+pub(crate) fn refuse_name(alloc: Global, at: usize, word: &str) -> Reply
+    ensures { Says (refused 2 (bad_name at word.now)) (said_in result) }
+{
+    refuse_by(alloc, 2, texts::bad_name(alloc, at, word))
+}
+
+/// The answer where a file does not read from this line on.
+pub(crate) fn refuse_line(alloc: Global, path: &str, line: usize) -> Reply
+    ensures { Says (refused 6 (bad_line path.now line)) (said_in result) }
+{
+    refuse_by(alloc, 6, texts::bad_line(alloc, path, line))
+}
+
+/// The answer where a limit is passed.
+pub(crate) fn refuse_limit(alloc: Global, limit: Limit) -> Reply
+    ensures { Says (refused 10 (limit_passed limit)) (said_in result) }
+{
+    refuse_with(alloc, 10, texts::limit_passed(limit))
+}
+
+/// The answer where a folder is not there.
+pub(crate) fn refuse_missing(alloc: Global, folder: &str) -> Reply
+    ensures { Says (refused 3 (not_in_the_store folder.now)) (said_in result) }
+{
+    refuse_by(alloc, 3, texts::not_in_the_store(alloc, folder))
+}
+
+/// The answer of a command that is refused, which was asked for this.
+pub(crate) fn refuse(alloc: Global, refusal: &Refusal, asked: &str) -> Reply
+    ensures { Says (refusal_said asked.now refusal.now) (said_in result) }
+{
+    let status = status_of(refusal);
+    if status == 14 {
+        return no_memory(alloc);
+    }
+    refuse_by(alloc, status, texts::text_of(alloc, refusal, asked))
 }

@@ -1,12 +1,12 @@
 //! A run of the program.
 
-ghost use Rattle.std.specs.Prelude.{◌≡◌, ◌≤◌, ℕ, List, map, string_bytes, vec_len};
-ghost use Rattle.disk_model.specs.Disk.{Rests, View};
+ghost use Rattle.std.specs.Prelude.{◌≡◌, ◌≤◌, map, string_bytes, vec_len};
+ghost use Rattle.disk_model.specs.Disk.{Rests};
 ghost use Rattle.cipher_port.specs.Tool.{Ring};
-ghost use Rattle.gopass_cli.specs.Found.{HaveRing};
+ghost use Rattle.store_core.specs.Moment.{HaveRing};
 ghost use Rattle.gopass_cli.specs.Ran.{Ran, RanCalmly, RanWithCauses, meanings, outside};
 
-use crate::answers::answer;
+use crate::answers::{Answered, answer};
 use crate::printing::print;
 use cipher_port::Cipher;
 use disk_model::Disk;
@@ -23,10 +23,12 @@ pub struct Ended<D> {
 /// Does what the words ask for in the store whose root directory is `root`, and writes the answer to
 /// `out` and `err`.
 ///
-/// The words are `show NAME` as yet. The status is 0 where the body was shown; 2 for bad words or a
-/// bad name, 3 for a name without a secret, 6 where a journal, a mounts file or a pending file is
-/// there, 8 where the file is not sealed or no key is held, 11 where the tool failed, 12 where the
-/// disk failed, 14 for want of memory and 16 where a sink failed.
+/// The words are `show NAME`, `ls [--flat] [FOLDER]`, `find TEXT` or `mounts` as yet. The status is 0
+/// where the command is done; 1 where `find` has no hit; 2 for bad words or a bad name, 3 for a secret
+/// or folder that is not there, 6 where a journal or a pending file is there or the mounts file does
+/// not read, 8 where the file is not sealed or no key is held, 10 where the store has too many files
+/// or secrets, 11 where the tool failed, 12 where the disk failed, 14 for want of memory and 16 where
+/// a sink failed.
 ///
 /// There are 1 to 16 tools, and where they tell their rings these are equal. They stay in their
 /// order.
@@ -62,8 +64,7 @@ pub fn gopass<D: Disk + Send, C: Cipher + Send, O: Sink, E: Sink>(
         (outside disk tools.old.items out.old err.old)
         (outside result.disk tools.new.items out.new err.new) result.status }
 {
-    let mut disk = disk;
-    let reply = answer(alloc, words, root, &mut disk, tools);
+    let Answered { reply, disk } = answer(alloc, words, root, disk, tools);
     let status = print(&reply, out, err);
     Ended { status, disk }
 }

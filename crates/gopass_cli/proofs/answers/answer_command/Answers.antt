@@ -1,34 +1,35 @@
-use Rattle.std.proofs.Common.{rules, refl, sym, subst}
-use Rattle.std.specs.Prelude.{Option, string_bytes}
+use Rattle.std.proofs.Common.{◌≡◌, ◌∙◌, subst, arith}
+use Rattle.std.specs.Prelude.{None}
 use Rattle.gopass_base.specs.Text.{Text}
-use Rattle.command_words.specs.declared.command.Command.{Command}
-use Rattle.gopass_cli.specs.Events.{calm, moment_of}
-use Rattle.gopass_cli.specs.Opening.{first_there, looked_for}
+use Rattle.disk_model.specs.Files.{Files}
+use Rattle.pending_journal.specs.Opened.{journal_path}
+use Rattle.gopass_cli.specs.Opening.{SaysOfCommand}
 use Rattle.gopass_cli.specs.Replies.{said_in}
-use Rattle.gopass_cli.specs.Run.{Runs, SaysOpened, SaysOfCommand}
-use Rattle.gopass_cli.specs.Said.{refused}
-use Rattle.gopass_cli.specs.Texts.{bad_words}
-use Rattle.gopass_cli.proofs.AnswerLemmas.{runs_meant, says_unbuilt}
+use Rattle.gopass_cli.specs.Run.{Runs, faults_of}
+use Rattle.gopass_cli.proofs.RunLemmas.{runs_later, runs_vault}
 use Rattle.gopass_cli.proofs.answers.answer_command.Goals as goal
 
-pub returns-in-Show-clause-runs : goal.returns-in-Show-clause-runs
-returns-in-Show-clause-runs g c told told' ring have state stands =
-    let old = moment_of g.D.Disk.meaning c.args.disk.now g.C.Cipher.meaning c.args.tools.now.items in
-    let new = moment_of g.D.Disk.meaning c.answer_word.new.disk g.C.Cipher.meaning c.answer_word.new.tools.items in
-    let there = first_there c.args.root.now (g.D.Disk.meaning.view c.args.disk.now).files looked_for in
-    subst (λ (command : Command). Runs (SaysOfCommand command there ring state) old new (said_in c.answer_word.result)) (sym c.in-Show.is)
-    (subst (λ (word : Text). Runs (SaysOpened there ring word state) old new (said_in c.answer_word.result)) c.deref.ensures
-    (c.answer_word.ensures.runs told told' ring have state stands))
+pub returns-in-Ready-clause-answers : goal.returns-in-Ready-clause-answers
+returns-in-Ready-clause-answers g c told tells ring have =
+    let root = c.args.root.now in
+    let vault = c.in-Ready.vault in
+    let opens = g.C.Cipher.meaning.opens in
+    let files = (g.D.Disk.meaning.view c.args.disk).files in
+    let fresh = c.in-Ready.ensures.ready.0 in
+    let same = (c.in-Ready.ensures.rests told).files in
+    let none : (g.D.Disk.meaning.view vault.disk).files (journal_path vault.root) ≡ None = (λ i. same i (journal_path (fresh.root_is i))) ∙ c.in-Ready.ensures.ready.1 told in
+    let old = faults_of g.D.Disk.meaning c.args.disk g.C.Cipher.meaning c.args.tools.now.items in
+    let mid = faults_of g.D.Disk.meaning vault.disk g.C.Cipher.meaning c.args.tools.now.items in
+    let new = faults_of g.D.Disk.meaning c.answer_vault.result.disk g.C.Cipher.meaning c.answer_vault.new.tools.items in
+    let said = said_in c.answer_vault.result.reply in
+    let here = c.answer_vault.ensures.answers none told tells ring have in
+    let by_root = subst (λ (r : Text). Runs (SaysOfCommand opens r (g.D.Disk.meaning.view vault.disk).files ring c.args.command) mid new said) fresh.root_is here in
+    let by_files = subst (λ (f : Files). Runs (SaysOfCommand opens root f ring c.args.command) mid new said) same by_root in
+    runs_later (SaysOfCommand opens root files ring c.args.command) old mid new said c.in-Ready.ensures.later (omega arith) by_files
 
-pub returns-in_default : goal.returns-in_default
-returns-in_default g c = record {
-  runs = λ told told' ring have state stands. (
-      let now = moment_of g.D.Disk.meaning c.args.disk.now g.C.Cipher.meaning c.args.tools.now.items in
-      let there = first_there c.args.root.now (g.D.Disk.meaning.view c.args.disk.now).files looked_for in
-      runs_meant (SaysOfCommand c.args.command.now there ring state) now now (refused 2 (bad_words 0)) (said_in c.refuse.result)
-      (says_unbuilt c.args.command.now there ring state calm (refused 2 (bad_words 0)) c.in_default.not-Show refl) c.refuse.ensures);
-  rests = search rules;
-  rings = search rules;
-  count = search rules;
-  causes = search rules;
-}
+pub returns-in-Refused-clause-answers : goal.returns-in-Refused-clause-answers
+returns-in-Refused-clause-answers g c told tells ring have =
+    let old = faults_of g.D.Disk.meaning c.args.disk g.C.Cipher.meaning c.args.tools.now.items in
+    let new = faults_of g.D.Disk.meaning c.in-Refused.disk g.C.Cipher.meaning c.args.tools.now.items in
+    runs_vault g.C.Cipher.meaning.opens c.args.root.now (g.D.Disk.meaning.view c.args.disk).files ring c.args.command old new c.in-Refused.fault (said_in c.refuse_vault.result) (omega arith)
+    (c.in-Refused.ensures.refused told) (λ e. c.in-Refused.ensures.cause.failed e) c.refuse_vault.ensures

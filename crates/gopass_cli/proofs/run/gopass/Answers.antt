@@ -1,24 +1,22 @@
 use Rattle.std.proofs.Common.{◌≢◌, ◌∙◌, map}
 use Rattle.std.specs.Prelude.{string_bytes}
-use Rattle.gopass_cli.specs.Events.{moment_of}
 use Rattle.gopass_cli.specs.Printed.{printed, stream_of}
 use Rattle.gopass_cli.specs.Replies.{said_in}
-use Rattle.gopass_cli.specs.Run.{RunSays}
-use Rattle.gopass_cli.proofs.AnswerLemmas.{said_calmly}
+use Rattle.gopass_cli.specs.Run.{RunSays, faults_of}
+use Rattle.gopass_cli.proofs.RunLemmas.{said_calmly}
 use Rattle.gopass_cli.proofs.PrintLemmas.{prints_all}
 use Rattle.gopass_cli.proofs.run.gopass.Goals as goal
 
 pub returns-clause-ran : goal.returns-clause-ran
-returns-clause-ran g c told told' ring have state stands =
-    (said_in c.answer-reply.result, c.answer-reply.ensures.runs told told' ring have state stands, c.print-status.ensures.printed)
+returns-clause-ran g c told tells ring have =
+    (said_in c.answer-reply.result.reply, c.answer-reply.ensures.answers told tells ring have, c.print-status.ensures.printed)
 
 pub returns-clause-complete : goal.returns-clause-complete
-returns-clause-complete g c told told' ring have state stands calm memory =
-    let old = moment_of g.D.Disk.meaning c.args.disk g.C.Cipher.meaning c.args.tools.now.items in
-    let new = moment_of g.D.Disk.meaning c.answer-reply.new.disk g.C.Cipher.meaning c.answer-reply.new.tools.items in
-    let said = said_in c.answer-reply.result in
+returns-clause-complete g c told tells ring have calm memory =
+    let old = faults_of g.D.Disk.meaning c.args.disk g.C.Cipher.meaning c.args.tools.now.items in
+    let new = faults_of g.D.Disk.meaning c.answer-reply.result.disk g.C.Cipher.meaning c.answer-reply.new.tools.items in
+    let said = said_in c.answer-reply.result.reply in
     let all = prints_all (printed said) c.print-status.result (stream_of g.O.Sink.meaning c.args.out.now) (stream_of g.O.Sink.meaning c.print-status.new.out) (stream_of g.E.Sink.meaning c.args.err.now) (stream_of g.E.Sink.meaning c.print-status.new.err) calm.out calm.err c.print-status.ensures.printed in
     let had : said.status ≢ 14 = λ e. memory (all.status_is ∙ e) in
-    let runs = c.answer-reply.ensures.runs told told' ring have state stands in
-    let says = said_calmly (RunSays (map string_bytes c.args.words.now) c.args.root.now (g.D.Disk.meaning.view c.args.disk).files ring state) old new said calm.disk calm.tools had runs in
+    let says = said_calmly (RunSays (map string_bytes c.args.words.now) g.C.Cipher.meaning.opens c.args.root.now (g.D.Disk.meaning.view c.args.disk).files ring) old new said calm.disk calm.tools had (c.answer-reply.ensures.answers told tells ring have) in
     (said, says, all)

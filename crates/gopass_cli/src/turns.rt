@@ -1,0 +1,109 @@
+//! One command on a store that is open.
+
+ghost use Rattle.std.specs.Prelude.{◌≡◌, ◌≤◌, IsFalse, is_some, vec_len};
+ghost use Rattle.disk_model.specs.Disk.{Rests};
+ghost use Rattle.cipher_port.specs.Tool.{Ring};
+ghost use Rattle.mount_table.specs.FaultOf.{name_fault};
+ghost use Rattle.store_core.specs.Moment.{HaveRing, all_tools};
+ghost use Rattle.store_core.specs.Does.{Does, Keeps};
+ghost use Rattle.store_core.specs.Show.{plan_show};
+ghost use Rattle.gopass_cli.specs.Words.{unless_bad};
+ghost use Rattle.gopass_cli.specs.Plan.{most_calls, plan_of};
+ghost use Rattle.gopass_cli.specs.Replies.{said_in};
+ghost use Rattle.gopass_cli.specs.Requests.{takes_body};
+
+use crate::listing::{find, ls, mounts};
+use crate::reply::{Reply, grant, no_memory, refuse, refuse_name};
+use cipher_port::Cipher;
+use command_words::Command;
+use disk_model::Disk;
+use mount_table::{Name, NameFault};
+use std::alloc::Global;
+use store_core::Store;
+
+/// A command, and the body that it is given where it takes one.
+#[derive(Debug, Drop)]
+pub struct Request {
+    pub command: Command,
+    pub body: Option<Vec<u8>>,
+}
+
+/// The answer of `show` for a name.
+fn show_name<D: Disk, C: Cipher>(
+    alloc: Global,
+    store: &mut Store<D>,
+    name: &Name,
+    tools: &mut Vec<C>,
+) -> Reply
+    requires some { 1 ≤ vec_len tools.old }
+    requires free { IsFalse store.old.vault.stuck }
+    ensures planned { Does (λ ring. plan_show ring name.now) store.old store.new
+        (all_tools C.meaning tools.old.items) (all_tools C.meaning tools.new.items) (said_in result) }
+    ensures keeps { Keeps 1 store.old store.new
+        (all_tools C.meaning tools.old.items) (all_tools C.meaning tools.new.items) result.status }
+    ensures rests { D.meaning.tells → Rests (D.meaning.view store.old.vault.disk) (D.meaning.view store.new.vault.disk) }
+    ensures count { vec_len tools.new ≡ vec_len tools.old }
+{
+    match store.show(alloc, name, &mut tools[0]) {
+        Ok(body) => grant(alloc, body),
+        Err(refusal) => refuse(alloc, &refusal, name.text()),
+    }
+}
+
+/// `show NAME`: the body of a secret.
+fn show<D: Disk, C: Cipher>(
+    alloc: Global,
+    store: &mut Store<D>,
+    word: &str,
+    tools: &mut Vec<C>,
+) -> Reply
+    requires some { 1 ≤ vec_len tools.old }
+    requires free { IsFalse store.old.vault.stuck }
+    ensures planned { Does (λ ring state events. unless_bad (name_fault word.now) word.now (plan_show ring word.now state events)) store.old store.new
+        (all_tools C.meaning tools.old.items) (all_tools C.meaning tools.new.items) (said_in result) }
+    ensures keeps { Keeps 1 store.old store.new
+        (all_tools C.meaning tools.old.items) (all_tools C.meaning tools.new.items) result.status }
+    ensures rests { D.meaning.tells → Rests (D.meaning.view store.old.vault.disk) (D.meaning.view store.new.vault.disk) }
+    ensures count { vec_len tools.new ≡ vec_len tools.old }
+{
+    match Name::read(alloc, word) {
+        Ok(name) => show_name(alloc, store, &name, tools),
+        Err(NameFault::Bad(bad)) => refuse_name(alloc, bad.at, word),
+        Err(NameFault::NoMemory) => no_memory(alloc),
+    }
+}
+
+/// Does the command on the store, and answers what it says: a status, and the bytes for standard
+/// output and standard error. Status 14 is want of memory, and has no bytes.
+///
+/// The store is not stuck, and the body is there where the command takes one. There are 1 to 16
+/// tools, and where they tell their rings these are equal. They stay in their order.
+pub fn turn<D: Disk + Send, C: Cipher + Send>(
+    alloc: Global,
+    store: &mut Store<D>,
+    request: &Request,
+    tools: &mut Vec<C>,
+) -> Reply
+    requires some { 1 ≤ vec_len tools.old }
+    requires few { vec_len tools.old ≤ 16 }
+    requires rings { C.meaning.tells → (ring : Ring) × HaveRing C.meaning tools.old.items ring }
+    requires free { IsFalse store.old.vault.stuck }
+    requires body { is_some request.now.body ≡ takes_body request.now.command }
+
+    // Where disk and tools tell, the command performs what is planned of it.
+    ensures planned { Does (λ ring. plan_of ring request.now.command) store.old store.new
+        (all_tools C.meaning tools.old.items) (all_tools C.meaning tools.new.items) (said_in result) }
+
+    // Told or not: causes, calls of tools, root and rings; and nothing of the disk is changed.
+    ensures keeps { Keeps (most_calls request.now.command) store.old store.new
+        (all_tools C.meaning tools.old.items) (all_tools C.meaning tools.new.items) result.status }
+    ensures rests { D.meaning.tells → Rests (D.meaning.view store.old.vault.disk) (D.meaning.view store.new.vault.disk) }
+    ensures count { vec_len tools.new ≡ vec_len tools.old }
+{
+    match &request.command {
+        Command::Show { name } => show(alloc, store, name, tools),
+        Command::Ls { folder, flat } => ls(alloc, store, folder, *flat),
+        Command::Find { text } => find(alloc, store, text),
+        Command::Mounts => mounts(alloc, store),
+    }
+}
