@@ -2,6 +2,12 @@
 #![tactic(auto)]
 
 #[cfg(test)]
+mod listing_tests;
+#[cfg(test)]
+mod opening_tests;
+#[cfg(test)]
 mod show_tests;
 #[cfg(test)]
 mod store;
+#[cfg(test)]
+mod turn_tests;

@@ -1,7 +1,6 @@
 //! `show NAME`.
 
-use crate::store::{Store, run};
-use std::process::Abort;
+use crate::store::{Left, Store, check_rows, disk, run_texts};
 use std::test::Fail;
 
 const RULE: (&str, &[u8]) = ("root/.gpg-id", b"alice\n");
@@ -35,19 +34,6 @@ const STORE: Store = Store {
     out_fails: &[],
 };
 
-/// The words, and the status, standard output and standard error that they leave.
-type Row<'a> = (&'a [&'a str], u8, &'a str, &'a str);
-
-fn check_rows<R: Abort + AllocGlobal>(rt: &R, store: &Store, rows: &[Row]) -> Result<(), Fail> {
-    for (words, status, out, err) in rows {
-        let left = run(rt.alloc(), store, words)?;
-        assert_eq!(rt; left.status, *status, "{words:?}");
-        assert_eq!(rt; left.out.as_slice(), out.as_bytes(), "{words:?}");
-        assert_eq!(rt; left.err.as_slice(), err.as_bytes(), "{words:?}");
-    }
-    Ok(())
-}
-
 #[test]
 fn show_prints_the_body(rt: HostRuntime) -> Result<(), Fail> {
     check_rows(
@@ -73,6 +59,7 @@ fn show_refuses(rt: HostRuntime) -> Result<(), Fail> {
                 "",
                 "gopass: nope is not in the store\n",
             ),
+            (&["show", "web"], 3, "", "gopass: web is a folder\n"),
             (&["show", "web/"], 2, "", "gopass: bad name at 4: web/\n"),
             (
                 &["show", "--", "-x"],
@@ -105,6 +92,73 @@ fn other_words_are_bad(rt: HostRuntime) -> Result<(), Fail> {
             (&["show", "e", "--flat"], 2, "", "gopass: bad words at 2\n"),
         ],
     )
+}
+
+/// What `show` of this name leaves.
+fn shown(rt: &HostRuntime, name: &str) -> Result<Left, Fail> {
+    let mut words = Vec::new(rt.alloc());
+    words.push(String::from_str(rt.alloc(), "show")?)?;
+    words.push(String::from_str(rt.alloc(), name)?)?;
+    run_texts(rt.alloc(), &STORE, disk(rt.alloc(), &STORE)?, &words)
+}
+
+#[test]
+fn names_of_400_bytes_and_of_401(rt: HostRuntime) -> Result<(), Fail> {
+    let longest = "x".repeat(rt.alloc(), 100)?;
+    let short = "x".repeat(rt.alloc(), 97)?;
+    let name = format!(in rt.alloc(); "{longest}/{longest}/{longest}/{short}")?;
+    let missing = format!(in rt.alloc(); "gopass: {name} is not in the store\n")?;
+    let left = shown(&rt, &name)?;
+    assert_eq!(rt; left.status, 3);
+    assert_eq!(rt; left.err.as_slice(), missing.as_bytes());
+    let long = format!(in rt.alloc(); "{name}x")?;
+    let bad = format!(in rt.alloc(); "gopass: bad name at 400: {long}\n")?;
+    let left = shown(&rt, &long)?;
+    assert_eq!(rt; left.status, 2);
+    assert_eq!(rt; left.err.as_slice(), bad.as_bytes());
+    Ok(())
+}
+
+#[test]
+fn names_at_their_limits(rt: HostRuntime) -> Result<(), Fail> {
+    check_rows(
+        &rt,
+        &STORE,
+        &[
+            (
+                &["show", "a/a/a/a/a/a/a/a/a/a/a/a/a/a/a/a"],
+                3,
+                "",
+                "gopass: a/a/a/a/a/a/a/a/a/a/a/a/a/a/a/a is not in the store\n",
+            ),
+            (
+                &["show", "a/a/a/a/a/a/a/a/a/a/a/a/a/a/a/a/a"],
+                2,
+                "",
+                "gopass: bad name at 32: a/a/a/a/a/a/a/a/a/a/a/a/a/a/a/a/a\n",
+            ),
+            (&["show", "a//b"], 2, "", "gopass: bad name at 2: a//b\n"),
+            (
+                &["show", "x.gpg/y"],
+                2,
+                "",
+                "gopass: bad name at 0: x.gpg/y\n",
+            ),
+        ],
+    )
+}
+
+#[test]
+fn a_name_may_end_as_its_file_does(rt: HostRuntime) -> Result<(), Fail> {
+    const FILE: (&str, &[u8]) = (
+        "root/y/x.gpg.gpg",
+        b"gopass-standin 1\nto alice\nbody 780a\nend\n",
+    );
+    let store = Store {
+        files: &[RULE, FILE],
+        ..STORE
+    };
+    check_rows(&rt, &store, &[(&["show", "y/x.gpg"], 0, "x\n", "")])
 }
 
 #[test]
@@ -143,7 +197,8 @@ fn faults_of_the_outside_are_told(rt: HostRuntime) -> Result<(), Fail> {
         &tool,
         &[(show, 11, "", "gopass: web/site: the tool failed\n")],
     )?;
-    for call in 0..4u64 {
+    // The lock, the journal, the mounts file, the pending file, the listing and the secret's file.
+    for call in 0..6u64 {
         let calls = [call];
         let disk = Store {
             disk_fails: &calls,

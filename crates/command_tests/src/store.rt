@@ -9,6 +9,7 @@ use gopass_cli::{Ended, gopass};
 use io_ports::MemSink;
 use mount_table::{DirPath, FilePath};
 use std::alloc::Global;
+use std::process::Abort;
 use std::test::Fail;
 
 /// A store whose root directory is `root`, one tool, and the numbers of the calls that fail.
@@ -21,6 +22,9 @@ pub(crate) struct Store<'a> {
     pub out_fails: &'a [u64],
 }
 
+/// The words, and the status, standard output and standard error that they leave.
+pub(crate) type Row<'a> = (&'a [&'a str], u8, &'a str, &'a str);
+
 /// What a run left: its status, and the bytes of its two streams.
 #[derive(Debug, Drop)]
 pub(crate) struct Left {
@@ -29,7 +33,7 @@ pub(crate) struct Left {
     pub err: Vec<u8>,
 }
 
-fn disk(alloc: Global, store: &Store) -> Result<MemDisk, Fail> {
+pub(crate) fn disk(alloc: Global, store: &Store) -> Result<MemDisk, Fail> {
     let mut files = Vec::new(alloc);
     for (path, bytes) in store.files {
         files.push((FilePath::read(alloc, path)?, bytes.to_vec(alloc)?))?;
@@ -53,7 +57,7 @@ fn tool(alloc: Global, store: &Store) -> Result<MemTool, Fail> {
     Ok(MemTool::new(known, held, store.tool_fails.to_vec(alloc)?))
 }
 
-fn tools(alloc: Global, store: &Store) -> Result<Vec<MemTool>, Fail>
+pub(crate) fn tools(alloc: Global, store: &Store) -> Result<Vec<MemTool>, Fail>
     ensures one { IfOk result (λ tools. vec_len tools ≡ 1) }
     ensures rings { IfOk result (λ tools. (ring : Ring) × All (λ tool. tool.ring ≡ ring) tools.items) }
 {
@@ -64,21 +68,55 @@ fn tools(alloc: Global, store: &Store) -> Result<Vec<MemTool>, Fail>
 
 /// Runs the words on the store.
 pub(crate) fn run(alloc: Global, store: &Store, words: &[&str]) -> Result<Left, Fail> {
+    run_on(alloc, store, disk(alloc, store)?, words)
+}
+
+/// Runs the words on this disk, with the tool and the sinks of the store.
+pub(crate) fn run_on(
+    alloc: Global,
+    store: &Store,
+    disk: MemDisk,
+    words: &[&str],
+) -> Result<Left, Fail> {
     let mut texts = Vec::new(alloc);
     for word in words {
         texts.push(String::from_str(alloc, word)?)?;
     }
+    run_texts(alloc, store, disk, &texts)
+}
+
+/// The same for words that stand in memory.
+pub(crate) fn run_texts(
+    alloc: Global,
+    store: &Store,
+    disk: MemDisk,
+    texts: &[String],
+) -> Result<Left, Fail> {
     let mut tools = tools(alloc, store)?;
     let mut out = MemSink::new(alloc, 40_000, store.out_fails.to_vec(alloc)?)?;
     let mut err = MemSink::new(alloc, 1_000, Vec::new(alloc))?;
     let root = DirPath::read(alloc, "root")?;
-    let disk = disk(alloc, store)?;
     let Ended { status, disk: _ } = gopass(
-        alloc, &texts, &root, disk, &mut tools, &mut out, &mut err,
+        alloc, texts, &root, disk, &mut tools, &mut out, &mut err,
     );
     Ok(Left {
         status,
         out: out.taken().to_vec(alloc)?,
         err: err.taken().to_vec(alloc)?,
     })
+}
+
+/// The rows leave what they say on the store.
+pub(crate) fn check_rows<R: Abort + AllocGlobal>(
+    rt: &R,
+    store: &Store,
+    rows: &[Row],
+) -> Result<(), Fail> {
+    for (words, status, out, err) in rows {
+        let left = run(rt.alloc(), store, words)?;
+        assert_eq!(rt; left.status, *status, "{words:?}");
+        assert_eq!(rt; left.out.as_slice(), out.as_bytes(), "{words:?}");
+        assert_eq!(rt; left.err.as_slice(), err.as_bytes(), "{words:?}");
+    }
+    Ok(())
 }

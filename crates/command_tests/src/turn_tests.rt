@@ -1,0 +1,87 @@
+//! What a command asks of the tool and of the disk.
+
+ghost use Rattle.std.specs.Prelude.{IfOk, IsFalse};
+
+use crate::store::{Store, disk, tools};
+use command_words::Command;
+use disk_model::MemDisk;
+use gopass_cli::{Request, turn};
+use mount_table::DirPath;
+use pending_journal::{Vault, VaultOpened};
+use std::alloc::Global;
+use std::test::Fail;
+use store_core::StoreOpened;
+
+const STORE: Store = Store {
+    files: &[
+        ("root/.gpg-id", b"alice\n"),
+        (
+            "root/web/site.gpg",
+            b"gopass-standin 1\nto alice\nbody 70770a\nend\n",
+        ),
+    ],
+    held: "alice",
+    disk_fails: &[],
+    tool_fails: &[],
+    out_fails: &[],
+};
+
+/// The open store in memory.
+fn opened(alloc: Global, store: &Store) -> Result<store_core::Store<MemDisk>, Fail>
+    ensures { IfOk result (λ store. IsFalse store.vault.stuck) }
+{
+    let root = DirPath::read(alloc, "root")?;
+    match Vault::open(alloc, disk(alloc, store)?, &root) {
+        VaultOpened::Ready(vault) => match store_core::Store::open(alloc, vault) {
+            StoreOpened::Ready(store) => Ok(store),
+            StoreOpened::Refused(fault, _) => Err(Fail::from(fault)),
+        },
+        VaultOpened::Refused(fault, _) => Err(Fail::from(fault)),
+    }
+}
+
+/// The status, the calls of the tool and those of the disk that a command makes.
+fn counts(alloc: Global, command: Command) -> Result<(u8, u64, u64), Fail> {
+    let mut store = opened(alloc, &STORE)?;
+    let mut tools = tools(alloc, &STORE)?;
+    let request = Request {
+        command,
+        body: None,
+    };
+    let reply = turn(alloc, &mut store, &request, &mut tools);
+    let calls = match tools.first() {
+        Some(tool) => tool.calls(),
+        None => 0,
+    };
+    Ok((reply.status, calls, store.into_vault().into_disk().steps()))
+}
+
+// An opening asks for the lock, reads three files and lists one mount.
+#[test]
+fn show_reads_one_file_and_calls_the_tool_once(rt: HostRuntime) -> Result<(), Fail> {
+    let name = String::from_str(rt.alloc(), "web/site")?;
+    let left = counts(rt.alloc(), Command::Show { name })?;
+    assert_eq!(rt; left, (0, 1, 6));
+    Ok(())
+}
+
+#[test]
+fn a_missing_secret_asks_nothing(rt: HostRuntime) -> Result<(), Fail> {
+    let name = String::from_str(rt.alloc(), "web")?;
+    let left = counts(rt.alloc(), Command::Show { name })?;
+    assert_eq!(rt; left, (3, 0, 5));
+    Ok(())
+}
+
+#[test]
+fn listings_ask_nothing(rt: HostRuntime) -> Result<(), Fail> {
+    let text = String::from_str(rt.alloc(), "web")?;
+    assert_eq!(rt; counts(rt.alloc(), Command::Find { text })?, (0, 0, 5));
+    assert_eq!(rt; counts(rt.alloc(), Command::Mounts)?, (0, 0, 5));
+    let ls = Command::Ls {
+        folder: None,
+        flat: false,
+    };
+    assert_eq!(rt; counts(rt.alloc(), ls)?, (0, 0, 5));
+    Ok(())
+}
