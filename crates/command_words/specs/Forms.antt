@@ -4,7 +4,7 @@ use Rattle.gopass_base.specs.Text.{Text}
 use Rattle.command_words.specs.Lookup.{Meant, meaning_of}
 use Rattle.command_words.specs.Options.{no_flags}
 use Rattle.command_words.specs.declared.verb.Verb.{Verb}
-use Rattle.command_words.specs.declared.verb.Verb.TheVariants.{Find, Ls, Mounts, Show}
+use Rattle.command_words.specs.declared.verb.Verb.TheVariants.{Find, Ls, Mounts, Recipients, Show}
 use Rattle.command_words.specs.declared.verb.Form.{Form}
 
 -- the words of the commands
@@ -14,6 +14,7 @@ commands =
     ∷ record { word = codes "list"; meaning = Ls }
     ∷ record { word = codes "ls"; meaning = Ls }
     ∷ record { word = codes "mounts"; meaning = Mounts }
+    ∷ record { word = codes "recipients"; meaning = Recipients }
     ∷ record { word = codes "show"; meaning = Show }
     ∷ []
 
@@ -27,6 +28,7 @@ abbrev pub form_of : Verb → Form
 form_of Find = record { least = 1; most = 1; flags = no_flags; has_subcommands = false }
 form_of Ls = record { least = 0; most = 1; flags = record no_flags { flat = true }; has_subcommands = false }
 form_of Mounts = record { least = 0; most = 0; flags = no_flags; has_subcommands = true }
+form_of Recipients = record { least = 0; most = 0; flags = no_flags; has_subcommands = true }
 form_of Show = record { least = 1; most = 1; flags = no_flags; has_subcommands = false }
 
 -- the command of a row of the table
@@ -36,4 +38,5 @@ verb_with code =
     else if code == 1 then Some Ls
     else if code == 2 then Some Show
     else if code == 3 then Some Mounts
+    else if code == 4 then Some Recipients
     else None

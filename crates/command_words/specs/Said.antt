@@ -5,7 +5,7 @@ use Rattle.gopass_base.specs.Text.{Text}
 use Rattle.command_words.specs.Options.{no_flags}
 use Rattle.command_words.specs.declared.options.Flags.{Flags}
 use Rattle.command_words.specs.declared.verb.Verb.{Verb}
-use Rattle.command_words.specs.declared.verb.Verb.TheVariants.{Find, Ls, Mounts, Show}
+use Rattle.command_words.specs.declared.verb.Verb.TheVariants.{Find, Ls, Mounts, Recipients, Show}
 use Rattle.command_words.specs.declared.command.Command.{Command}
 use Rattle.command_words.specs.declared.command.Command.TheVariants as command
 
@@ -20,6 +20,7 @@ abbrev pub said : Command → Said
 said (command.Find text) = record { verb = Find; flags = no_flags; plain = string_bytes text ∷ [] }
 said (command.Ls folder flat) = record { verb = Ls; flags = record no_flags { flat = flat }; plain = map string_bytes (option_to_list folder) }
 said command.Mounts = record { verb = Mounts; flags = no_flags; plain = [] }
+said command.Recipients = record { verb = Recipients; flags = no_flags; plain = [] }
 said (command.Show name) = record { verb = Show; flags = no_flags; plain = string_bytes name ∷ [] }
 
 -- those of the options that are among these

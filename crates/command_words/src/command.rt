@@ -19,6 +19,8 @@ pub enum Command {
     Find { text: String },
     /// `mounts`
     Mounts,
+    /// `recipients`
+    Recipients,
 }
 
 /// The command with these options and plain words.
@@ -35,6 +37,7 @@ pub(crate) fn build(verb: Verb, flags: Flags, plain: Vec<String>) -> Command
             flat: flags.flat,
         },
         Verb::Mounts => Command::Mounts,
+        Verb::Recipients => Command::Recipients,
         Verb::Show => Command::Show { name: one(plain) },
     }
 }

@@ -27,6 +27,7 @@ const ROWS: &[Row] = &[
         r#"Ok(Ls { folder: Some("a"), flat: false })"#,
     ),
     (&["mounts"], "Ok(Mounts)"),
+    (&["recipients"], "Ok(Recipients)"),
     // options before and after the plain words
     (&["ls", "--flat"], "Ok(Ls { folder: None, flat: true })"),
     (
@@ -52,6 +53,10 @@ const ROWS: &[Row] = &[
     (&["mounts", "add", "a", "b"], "Err(Bad { at: 1 })"),
     (&["mounts", "--"], "Err(Bad { at: 1 })"),
     (&["mounts", "--flat"], "Err(Bad { at: 1 })"),
+    (&["recipients", "x"], "Err(Bad { at: 1 })"),
+    (&["recipients", "--"], "Err(Bad { at: 1 })"),
+    (&["recipients", "--flat"], "Err(Bad { at: 1 })"),
+    (&["recipient"], "Err(Bad { at: 0 })"),
     // an option that the command does not have, or that no command has
     (&["show", "--flat", "a"], "Err(Bad { at: 1 })"),
     (&["show", "a", "--flat"], "Err(Bad { at: 2 })"),

@@ -12,6 +12,7 @@ pub(crate) enum Verb {
     Find,
     Ls,
     Mounts,
+    Recipients,
     Show,
 }
 
@@ -26,11 +27,12 @@ pub(crate) struct Form {
 }
 
 /// The words of the commands.
-const COMMANDS: [WordRow; 5] = word_table![
+const COMMANDS: [WordRow; 6] = word_table![
     b"find" => 0,
     b"list" => 1,
     b"ls" => 1,
     b"mounts" => 3,
+    b"recipients" => 4,
     b"show" => 2,
 ];
 
@@ -43,6 +45,7 @@ fn verb_with(code: u16) -> Option<Verb>
         1 => Some(Verb::Ls),
         2 => Some(Verb::Show),
         3 => Some(Verb::Mounts),
+        4 => Some(Verb::Recipients),
         _ => None,
     }
 }
@@ -76,6 +79,12 @@ pub(crate) fn form_of(verb: Verb) -> Form
             has_subcommands: false,
         },
         Verb::Mounts => Form {
+            least: 0,
+            most: 0,
+            flags: none,
+            has_subcommands: true,
+        },
+        Verb::Recipients => Form {
             least: 0,
             most: 0,
             flags: none,

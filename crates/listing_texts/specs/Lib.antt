@@ -1,3 +1,4 @@
 pub mod Lines
 pub mod Tree
 pub mod MountLines
+pub mod RuleLines

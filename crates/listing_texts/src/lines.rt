@@ -1,10 +1,10 @@
-//! Names on lines of their own.
+//! Names on lines of their own, and the text of a folder.
 
 ghost use Rattle.std.specs.Prelude.{◌≡◌, ◌∷◌, ◌++◌, [], IfOk, OnOk};
-ghost use Rattle.listing_texts.specs.Lines.{on_lines};
+ghost use Rattle.listing_texts.specs.Lines.{on_lines, shown_folder};
 
 use gopass_base::NoMemory;
-use mount_table::Name;
+use mount_table::{Folder, Name};
 use std::alloc::{AllocError, Global};
 
 /// The names in their order, each with a line feed behind it.
@@ -18,9 +18,18 @@ pub fn on_lines(alloc: Global, names: &[Name]) -> Result<Vec<u8>, NoMemory>
     Ok(text)
 }
 
-fn push_on_line(text: &mut Vec<u8>, line: &str) -> Result<(), AllocError>
+/// Appends the line, and a line feed.
+pub(crate) fn push_on_line(text: &mut Vec<u8>, line: &str) -> Result<(), AllocError>
     ensures { OnOk result (text.new.items ≡ text.old.items ++ (line.now ++ 10 ∷ [])) }
 {
     text.extend_from_slice(line.as_bytes())?;
     text.extend_from_slice(b"\n")
+}
+
+/// The folder's text, or `/` for the root folder.
+pub(crate) fn shown_folder(folder: &Folder) -> &str
+    ensures { result.now ≡ shown_folder folder.now }
+{
+    let text = folder.text();
+    if text.is_empty() { "/" } else { text }
 }

@@ -1,10 +1,11 @@
 //! The mounts, on lines.
 
 ghost use Rattle.std.specs.Prelude.{◌≡◌, ◌∷◌, ◌++◌, [], IfOk, OnOk};
-ghost use Rattle.listing_texts.specs.MountLines.{mount_line, mounts_text, shown_alias};
+ghost use Rattle.listing_texts.specs.MountLines.{mount_line, mounts_text};
 
+use crate::lines::shown_folder;
 use gopass_base::NoMemory;
-use mount_table::{Folder, Mounts, Row};
+use mount_table::{Mounts, Row};
 use std::alloc::{AllocError, Global};
 
 /// A line for each mount, in their order: its alias, `/` for that of the root, a tab, its directory,
@@ -23,17 +24,10 @@ fn push_mount(text: &mut Vec<u8>, row: &Row) -> Result<(), AllocError>
     ensures { OnOk result (text.new.items ≡ text.old.items ++ (mount_line row.now ++ 10 ∷ [])) }
 {
     let flag = if row.git { "git" } else { "plain" };
-    text.extend_from_slice(shown_alias(&row.alias).as_bytes())?;
+    text.extend_from_slice(shown_folder(&row.alias).as_bytes())?;
     text.extend_from_slice(b"\t")?;
     text.extend_from_slice(row.dir.text().as_bytes())?;
     text.extend_from_slice(b"\t")?;
     text.extend_from_slice(flag.as_bytes())?;
     text.extend_from_slice(b"\n")
-}
-
-fn shown_alias(alias: &Folder) -> &str
-    ensures { result.now ≡ shown_alias alias.now }
-{
-    let text = alias.text();
-    if text.is_empty() { "/" } else { text }
 }

@@ -3,6 +3,8 @@ ghost use Rattle.mount_table.specs.Prefixes.{Holds};
 
 use super::*;
 use mount_table::{DirPath, Folder, Mounts, Name};
+use path_rules::Rules;
+use recipient_files::{Id, Recipients};
 use std::test::*;
 
 fn names(rt: &HostRuntime, texts: &[&str]) -> Result<Vec<Name>, Fail> {
@@ -71,6 +73,31 @@ fn mounts_on_lines(rt: HostRuntime) -> Result<(), Fail> {
     assert_eq!(rt;
         String::from_utf8(text)?.as_str(),
         "/\troot\tplain\nwork\tw\tplain\n"
+    );
+    Ok(())
+}
+
+/// Gives a folder the rule of these ids.
+fn set(rt: &HostRuntime, rules: &mut Rules, folder: &str, ids: &[&str]) -> Result<(), Fail> {
+    let mut list = Vec::new(rt.alloc());
+    for id in ids {
+        list.push(Id::read(rt.alloc(), id)?)?;
+    }
+    let folder = Folder::read(rt.alloc(), folder)?;
+    rules.set(&folder, Recipients::of(rt.alloc(), &list)?)?;
+    Ok(())
+}
+
+#[test]
+fn rules_on_lines(rt: HostRuntime) -> Result<(), Fail> {
+    let mut rules = Rules::new(rt.alloc());
+    assert!(rt; recipients_text(rt.alloc(), &rules)?.is_empty());
+    set(&rt, &mut rules, "a/b", &["bob"])?;
+    set(&rt, &mut rules, "/", &["bob", "alice"])?;
+    let text = recipients_text(rt.alloc(), &rules)?;
+    assert_eq!(rt;
+        String::from_utf8(text)?.as_str(),
+        "/\n  alice\n  bob\na/b\n  bob\n"
     );
     Ok(())
 }
