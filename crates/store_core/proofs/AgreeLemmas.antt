@@ -30,7 +30,7 @@ use Rattle.store_core.specs.State.{Cell, State, TextMap, StandsFor, AreMounts, m
 use Rattle.store_core.specs.Opening.{IsFound}
 use Rattle.store_core.proofs.OpeningLemmas.{table_of}
 use Rattle.store_core.proofs.StateLemmas.{one_state}
-use Rattle.store_core.proofs.StandsLemmas.{found_state, found_stands, found_keys, found_mounts}
+use Rattle.store_core.proofs.StandsLemmas.{found_state, found_stands, found_keys, found_mounts, found_rules}
 use Rattle.store_core.proofs.TableLemmas.{equal}
 
 row_code : Coded Row
@@ -47,6 +47,10 @@ module _ (opens : Opens) (root : Text) (files : Files) (found : Found) (state : 
   -- and so are the names of its secrets
   pub keys_agree : map.keys state.rows ≡ found.seen.names.items
   keys_agree = ∥∥₁_elim is (Coded-set (coded_list (coded_list coded_ℕ)) (map.keys state.rows) found.seen.names.items) (λ here. ap (λ (s : State). map.keys s.rows) (state_is here) ∙ found_keys opens root files found here.table here)
+
+  -- and its rules
+  pub rules_agree : state.rules ≡ found.rules
+  rules_agree = ∥∥₁_elim is (Coded-set (map.code (coded_list coded_ℕ) (coded_list (coded_list coded_ℕ))) state.rules found.rules) (λ here. ap (λ (s : State). s.rules) (state_is here) ∙ found_rules opens root files found here.table here)
 
   pub table_agrees : IsTable (root_of found.mounts) found.mounts → IsTable root found.mounts
   table_agrees table = table_of root (files (mounts_path root)) found.mounts (subst (λ (mounts : List Row). AreMounts root (files (mounts_path root)) mounts) mounts_agree stands.mounts_are) table

@@ -7,8 +7,12 @@ pub mod TreeLemmas
 pub mod SurveyLemmas
 pub mod OpeningLemmas
 pub mod OrderLemmas
+pub mod RuleFileLemmas
 pub mod NameLemmas
 pub mod TableLemmas
+pub mod FolderFileLemmas
+pub mod FolderPathLemmas
+pub mod RuleLemmas
 pub mod TemplateLemmas
 pub mod StandsLemmas
 pub mod HoldsLemmas

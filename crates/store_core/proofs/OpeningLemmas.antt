@@ -1,5 +1,5 @@
 -- The store's own files are not the vault's.
-use Rattle.std.proofs.Common.{Some, ◌≡◌, ◌≢◌, ℕ, List, length, Bool, Option, None, if◌then◌else◌, codes, refl, ap, sym, ◌∙◌, subst}
+use Rattle.std.proofs.Common.{Some, ◌≡◌, ◌≢◌, ◌≤◌, inr, Result, Err, ℕ, List, length, Bool, Option, None, if◌then◌else◌, codes, refl, ap, sym, ◌∙◌, subst}
 use Rattle.gopass_base.specs.Text.{Text}
 use Rattle.disk_model.specs.Files.{Files}
 use Rattle.disk_model.specs.Answers.{Reads}
@@ -13,7 +13,11 @@ use Rattle.store_core.specs.Order.{AreRising, IsOrdered}
 use Rattle.store_core.specs.Survey.{IsSurvey}
 use Rattle.store_core.specs.State.{AreMounts, mounts_path}
 use Rattle.store_core.proofs.OrderLemmas.{seen_in_order}
-use Rattle.store_core.specs.Opening.{pending_path}
+use Rattle.path_rules.specs.RuleMap.{RuleMap}
+use Rattle.store_core.specs.declared.fault.StoreFault.{StoreFault}
+use Rattle.store_core.specs.declared.fault.StoreFault.TheVariants.{BadFile, Full, Disk, NoMemory}
+use Rattle.store_core.specs.RuleFiles.{ReadsRules}
+use Rattle.store_core.specs.Opening.{IsSurveyed, Opens, pending_path}
 use Rattle.store_core.proofs.KindLemmas.{rest_found}
 
 pub mounts_shown : (root : Text) (files : Files) → without_service root files (mounts_path root) ≡ files (mounts_path root)
@@ -46,9 +50,33 @@ survey_first start files root now mounts seen ordered counts same rests is order
     record { found = seen_in_order start files mounts (length mounts) seen ordered here.found order; as_many = here.as_many; each = here.each }
 
 pub rising_of : (seen ordered : Seen) → IsOrdered seen ordered → AreRising ordered
-rising_of seen ordered order = record { names = order.names.rising; templates = order.templates.rising; strange = order.strange.rising; shadowed = order.shadowed.rising }
+rising_of seen ordered order = record { names = order.names.rising; rules = order.rules.rising; templates = order.templates.rising; strange = order.strange.rising; shadowed = order.shadowed.rising }
 
 -- the mounts that were read are a table of this root directory
 pub table_of : (root : Text) (file : Option Text) (mounts : List Row) → AreMounts root file mounts → IsTable (root_of mounts) mounts → IsTable root mounts
 table_of root None mounts is table = subst (λ (r : Text). IsTable r mounts) (ap root_of is) table
 table_of root (Some bytes) mounts is table = is.0
+
+-- all of what lies below the mounts, as it stands at the start
+pub surveyed : (start : Text) (files : Files) (given : Text) (one : Text) (ones : Files) (two : Text) (twos : Files) (mounts : List Row) (seen ordered : Seen) (counts : List ℕ)
+    → given ≡ start → AreMounts given (files (mounts_path given)) mounts → one ≡ start → ones ≡ files → ones (pending_path one) ≡ None → two ≡ start → twos ≡ files → IsSurvey two twos mounts seen counts → IsOrdered seen ordered
+    → IsSurveyed start files mounts ordered
+surveyed start files given one ones two twos mounts seen ordered counts given_is are one_is ones_are none two_is twos_are is order = record {
+  mounts_are = found_first start files given mounts given_is are;
+  no_pending = pending_first start files one ones one_is ones_are none;
+  counts = counts;
+  survey = survey_first start files two twos mounts seen ordered counts two_is twos_are is order;
+  rising = rising_of seen ordered order;
+}
+
+-- what was read of the rules, as it stands at the start
+pub rules_first : (start : Text) (files : Files) (root : Text) (now : Files) (mounts : List Row) (folders : List Text) (r : Result RuleMap StoreFault) → root ≡ start → now ≡ files → ReadsRules root now mounts folders r → ReadsRules start files mounts folders r
+rules_first start files root now mounts folders r same rests is = subst (λ (f : Files). ReadsRules start f mounts folders r) rests (subst (λ (t : Text). ReadsRules t now mounts folders r) same is)
+
+-- a bad rule file refuses the opening
+pub opens_fault : (root : Text) (files : Files) (mounts : List Row) (seen : Seen) (fault : StoreFault) → IsSurveyed root files mounts seen → length seen.rules.items ≤ 512 → length seen.names.items ≤ 8192
+    → ReadsRules root files mounts seen.rules.items (Err fault) → Opens root files (Err fault)
+opens_fault root files mounts seen (BadFile path line) all few_rules few (folder, has, bad) = inr (inr (mounts, seen, all, few_rules, few, folder, has, bad))
+opens_fault root files mounts seen (Full kind) all few_rules few is = absurd is
+opens_fault root files mounts seen Disk all few_rules few is = tt
+opens_fault root files mounts seen NoMemory all few_rules few is = tt

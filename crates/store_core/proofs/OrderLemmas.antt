@@ -29,6 +29,7 @@ of_files_in_order Gives root files mounts n list now of order x = (λ has. (of x
 pub seen_in_order : (root : Text) (files : Files) (mounts : List Row) (n : ℕ) (seen now : Seen) → IsSeen root files mounts n seen → IsOrdered seen now → IsSeen root files mounts n now
 seen_in_order root files mounts n seen now is order = record {
   names = of_files_in_order _ root files mounts n seen.names.items now.names.items is.names order.names;
+  rules = of_files_in_order _ root files mounts n seen.rules.items now.rules.items is.rules order.rules;
   templates = of_files_in_order _ root files mounts n seen.templates.items now.templates.items is.templates order.templates;
   strange = of_files_in_order _ root files mounts n seen.strange.items now.strange.items is.strange order.strange;
   shadowed = of_files_in_order _ root files mounts n seen.shadowed.items now.shadowed.items is.shadowed order.shadowed;

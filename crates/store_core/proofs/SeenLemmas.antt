@@ -10,7 +10,7 @@ use Rattle.store_core.specs.declared.kind.Kind.{Kind}
 use Rattle.store_core.specs.declared.kind.Kind.TheVariants.{Secret, Rule, Template, Shadowed, Hidden, Strange}
 use Rattle.store_core.specs.declared.seen.Seen.{Seen}
 use Rattle.store_core.specs.Places.{IsKind}
-use Rattle.store_core.specs.Found.{LiesAs, GivesName, GivesTemplate, GivesStrange, GivesShadowed, name_in, template_in, strange_in, shadowed_in, IsWith, HasMore, IsGrown, AreBelow}
+use Rattle.store_core.specs.Found.{LiesAs, GivesName, GivesRule, GivesTemplate, GivesStrange, GivesShadowed, name_in, rule_in, template_in, strange_in, shadowed_in, IsWith, HasMore, IsGrown, AreBelow}
 use Rattle.store_core.specs.Tree.{IsTree}
 use Rattle.disk_model.specs.Files.{Files}
 use Rattle.store_core.proofs.OneKind.{one_kind}
@@ -34,6 +34,14 @@ gives_name (Template folder) path x = (λ h. absurd (nothing_in x h), λ e. absu
 gives_name Shadowed path x = (λ h. absurd (nothing_in x h), λ e. absurd (cc))
 gives_name Hidden path x = (λ h. absurd (nothing_in x h), λ e. absurd (cc))
 gives_name Strange path x = (λ h. absurd (nothing_in x h), λ e. absurd (cc))
+
+gives_rule : (kind : Kind) (path x : Text) → Contains (rule_in kind) x ↔ GivesRule kind path x
+gives_rule (Rule folder) path x = (λ h. ap Rule (just_it folder x h), λ e. (let same : folder ≡ x = cc in it_is_there folder x same))
+gives_rule (Template folder) path x = (λ h. absurd (nothing_in x h), λ e. absurd (cc))
+gives_rule (Secret name) path x = (λ h. absurd (nothing_in x h), λ e. absurd (cc))
+gives_rule Shadowed path x = (λ h. absurd (nothing_in x h), λ e. absurd (cc))
+gives_rule Hidden path x = (λ h. absurd (nothing_in x h), λ e. absurd (cc))
+gives_rule Strange path x = (λ h. absurd (nothing_in x h), λ e. absurd (cc))
 
 gives_template : (kind : Kind) (path x : Text) → Contains (template_in kind) x ↔ GivesTemplate kind path x
 gives_template (Template folder) path x = (λ h. ap Template (just_it folder x h), λ e. (let same : folder ≡ x = cc in it_is_there folder x same))
@@ -102,6 +110,7 @@ module _ (Gives : Kind → Text → Text → Type 0) (mounts : List Row) (k : �
 pub none_grown : (mounts : List Row) (k : ℕ) (seen : Seen) → IsGrown mounts k [] seen seen
 none_grown mounts k seen = record {
   names = none_more GivesName mounts k seen.names.items;
+  rules = none_more GivesRule mounts k seen.rules.items;
   templates = none_more GivesTemplate mounts k seen.templates.items;
   strange = none_more GivesStrange mounts k seen.strange.items;
   shadowed = none_more GivesShadowed mounts k seen.shadowed.items;
@@ -110,6 +119,7 @@ none_grown mounts k seen = record {
 pub grown_more : (mounts : List Row) (k : ℕ) (paths : List Text) (path : Text) (old mid new : Seen) (kind : Kind) → IsGrown mounts k paths old mid → LiesAs mounts k kind path → IsWith mid new kind path → IsGrown mounts k (paths ++ path ∷ []) old new
 grown_more mounts k paths path old mid new kind so_far lies with = record {
   names = one_more GivesName mounts k paths path kind old.names.items mid.names.items new.names.items (name_in kind) so_far.names with.names lies (gives_name kind path);
+  rules = one_more GivesRule mounts k paths path kind old.rules.items mid.rules.items new.rules.items (rule_in kind) so_far.rules with.rules lies (gives_rule kind path);
   templates = one_more GivesTemplate mounts k paths path kind old.templates.items mid.templates.items new.templates.items (template_in kind) so_far.templates with.templates lies (gives_template kind path);
   strange = one_more GivesStrange mounts k paths path kind old.strange.items mid.strange.items new.strange.items (strange_in kind path) so_far.strange with.strange lies (gives_strange kind path);
   shadowed = one_more GivesShadowed mounts k paths path kind old.shadowed.items mid.shadowed.items new.shadowed.items (shadowed_in kind path) so_far.shadowed with.shadowed lies (gives_shadowed kind path);

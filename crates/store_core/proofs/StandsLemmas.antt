@@ -1,81 +1,34 @@
 -- The files of a store that opens stand for a state.
-use Rattle.std.proofs.Common.{◌≡◌, ◌≢◌, inl, inr, ℕ, ◌<◌, Bool, true, false, ◌||◌, List, [], ◌∷◌, ◌++◌, length, bytes_eq, Option, Some, None, if◌then◌else◌, refl, ap, sym, ◌∙◌, subst, arith}
-use Rattle.std.specs.Prelude.{Contains, codes, option_map, map as each}
+use Rattle.std.proofs.Common.{◌≡◌, inl, inr, ℕ, ◌<◌, Bool, true, false, ◌||◌, List, ◌∷◌, ◌++◌, length, Option, Some, None, if◌then◌else◌, refl, ap, sym, ◌∙◌, subst, arith}
+use Rattle.std.specs.Prelude.{Contains, option_map, map as each}
 use Rattle.std.specs.FinMap as map
 use Rattle.std.specs.FinMap.Entries.{find}
 use Rattle.std.specs.Ordering.{nat_cmp}
 use Rattle.std.specs.Cmp.Lexicographic.{slice_cmp}
-use Rattle.std.proofs.lemmas.List.{append_cancel_left}
 use Rattle.std.proofs.lemmas.List.Elements.{Contains-append_left, Contains-append_right, Contains-append_cases}
-use Rattle.std.proofs.lemmas.Slice.Eq.{bytes_eq-Decides}
 use Rattle.gopass_base.specs.Text.{Text}
 use Rattle.mount_table.specs.Names.{IsName}
-use Rattle.mount_table.specs.Folders.{IsFolder}
-use Rattle.mount_table.specs.Paths.{path_in}
-use Rattle.mount_table.specs.Mounts.{row_at, IsTable}
-use Rattle.mount_table.specs.declared.mounts.Row.{Row}
+use Rattle.mount_table.specs.Mounts.{IsTable}
 use Rattle.disk_model.specs.Files.{Files}
-use Rattle.disk_model.specs.Listing.{LiesIn, lies_in, rest_in}
-use Rattle.disk_model.proofs.ListingLemmas.{lies_by, rest_is}
-use Rattle.pending_journal.specs.Service.{is_service, is_service_rest, without_service}
+use Rattle.pending_journal.specs.Service.{without_service}
 use Rattle.cipher_port.specs.Tool.{Opens}
 use Rattle.recipient_files.specs.Ids.{is_among}
 use Rattle.recipient_files.proofs.SetLemmas.{is_among_tells}
 use Rattle.store_core.specs.declared.kind.Kind.{Kind}
-use Rattle.store_core.specs.declared.kind.Kind.TheVariants.{Template}
+use Rattle.store_core.specs.declared.kind.Kind.TheVariants.{Rule, Template}
 use Rattle.store_core.specs.declared.opening.Found.{Found}
-use Rattle.store_core.specs.Places.{IsFolderOf, folder_rest, in_folder, secret_path, template_file, template_path}
+use Rattle.store_core.specs.Places.{IsFolderOf, rule_path, secret_path, template_path}
+use Rattle.path_rules.specs.RuleMap.{rule_at}
+use Rattle.store_core.specs.RuleFiles.{IsRuleOf}
+use Rattle.store_core.proofs.RuleLemmas.{path_of_rule, folder_of_rule, rule_lies_as, rule_lies_in, rule_shown, rule_stays}
 use Rattle.store_core.specs.Found.{LiesAs}
-use Rattle.store_core.specs.Tree.{is_own, tree_files}
+use Rattle.store_core.specs.Tree.{tree_files}
 use Rattle.store_core.specs.State.{Cell, State, StandsFor, IsOwned, cell_of, is_outside, mounts_path}
 use Rattle.store_core.specs.Opening.{IsFound}
 use Rattle.store_core.proofs.KindLemmas.{one_folder_row}
 use Rattle.store_core.proofs.TableLemmas.{finds, keys_tabled, first_or, later as behind, sorted_tabled, tabled, values_of, value_there, key_of_value}
-use Rattle.store_core.proofs.NameLemmas.{names_found, one_dir, or_cases, false_by}
-use Rattle.store_core.proofs.TemplateLemmas.{full_of_rest, no_own_rest, no_stage, path_of_template, folder_of_template, template_lies_as, template_lies_in}
-
--- ---- the file of a template is no file of the store's own
-
-template_rest : (root : Text) (mounts : List Row) (k : ℕ) (folder r : Text) → IsTable root mounts → IsFolderOf mounts k folder → template_path mounts k folder ≡ path_in root r → in_folder (folder_rest (row_at mounts k).alias folder) template_file ≡ r
-template_rest root mounts k folder r table (good, here) is =
-    let some = table.some in
-    let first : (row_at mounts 0).dir ≡ root = (table.rows_are.first (omega arith)).1 in
-    let rest = in_folder (folder_rest (row_at mounts k).alias folder) template_file in
-    let whole : path_in (row_at mounts k).dir rest ≡ path_in (row_at mounts 0).dir r = is ∙ ap (λ d. path_in d r) (sym first) in
-    let same : k ≡ 0 = one_dir root mounts k 0 rest r table here.inside (omega arith) whole in
-    let tails : 47 ∷ rest ≡ 47 ∷ r = append_cancel_left (row_at mounts 0).dir (47 ∷ rest) (47 ∷ r) (ap (λ n. path_in (row_at mounts n).dir rest) (sym same) ∙ whole) in
-    cc
-
-not_own_rest : (root : Text) (mounts : List Row) (k : ℕ) (folder us : Text) (b : ℕ) → IsTable root mounts → IsFolderOf mounts k folder → b ≢ 101 → template_path mounts k folder ≢ path_in root (us ++ b ∷ [])
-not_own_rest root mounts k folder us b table h other e = no_own_rest (folder_rest (row_at mounts k).alias folder) us b other (template_rest root mounts k folder (us ++ b ∷ []) table h e)
-
-template_service : (root : Text) (mounts : List Row) (k : ℕ) (folder r : Text) → IsTable root mounts → IsFolderOf mounts k folder → template_path mounts k folder ≡ path_in root r → is_service_rest (Some r) ≡ true → ⊥
-template_service root mounts k folder r table h is e = elim (or_cases (bytes_eq r (codes ".gopass-journal")) (bytes_eq r (codes ".gopass-journal.new") || lies_in (codes ".gopass-stage") r) e) [
-  | inl journal ↦ not_own_rest root mounts k folder (codes ".gopass-journa") 108 table h (λ n. omega (arith, n)) (is ∙ ap (path_in root) ((bytes_eq-Decides r (codes ".gopass-journal")).0 journal))
-  | inr more ↦ elim (or_cases (bytes_eq r (codes ".gopass-journal.new")) (lies_in (codes ".gopass-stage") r) more) [
-    | inl new ↦ not_own_rest root mounts k folder (codes ".gopass-journal.ne") 119 table h (λ n. omega (arith, n)) (is ∙ ap (path_in root) ((bytes_eq-Decides r (codes ".gopass-journal.new")).0 new))
-    | inr stage ↦ no_stage (row_at mounts k).alias (folder_rest (row_at mounts k).alias folder) (subst (λ (t : Text). IsFolder t) (sym (full_of_rest (row_at mounts k).alias folder h.0 h.1.reaches)) h.0)
-        (subst (LiesIn (codes ".gopass-stage")) (sym (template_rest root mounts k folder r table h is)) (lies_by (codes ".gopass-stage") r stage))
-  ]
-]
-
-template_stays : (root : Text) (files : Files) (mounts : List Row) (k : ℕ) (folder : Text) → IsTable root mounts → IsFolderOf mounts k folder → tree_files root files (template_path mounts k folder) ≡ files (template_path mounts k folder)
-template_stays root files mounts k folder table h =
-    ap (λ (t : Bool). if t then None else without_service root files (template_path mounts k folder)) own
-    ∙ ap (λ (t : Bool). if t then None else files (template_path mounts k folder)) service
-  where
-    own : is_own root (template_path mounts k folder) ≡ false
-    own = false_by (is_own root (template_path mounts k folder)) (λ e. elim (or_cases (bytes_eq (template_path mounts k folder) (path_in root (codes ".gopass-mounts"))) (bytes_eq (template_path mounts k folder) (path_in root (codes ".gopass-pending"))) e) [
-      | inl file ↦ not_own_rest root mounts k folder (codes ".gopass-mount") 115 table h (λ n. omega (arith, n)) ((bytes_eq-Decides (template_path mounts k folder) (path_in root (codes ".gopass-mounts"))).0 file)
-      | inr file ↦ not_own_rest root mounts k folder (codes ".gopass-pendin") 103 table h (λ n. omega (arith, n)) ((bytes_eq-Decides (template_path mounts k folder) (path_in root (codes ".gopass-pending"))).0 file)
-    ])
-
-    by : (r : Option Text) → rest_in root (template_path mounts k folder) ≡ r → is_service_rest r ≡ true → ⊥
-    by None is e = cc
-    by (Some r) is e = template_service root mounts k folder r table h (rest_is root (template_path mounts k folder) r is) e
-
-    service : is_service root (template_path mounts k folder) ≡ false
-    service = false_by (is_service root (template_path mounts k folder)) (by (rest_in root (template_path mounts k folder)) refl)
+use Rattle.store_core.proofs.NameLemmas.{names_found}
+use Rattle.store_core.proofs.TemplateLemmas.{path_of_template, folder_of_template, template_lies_as, template_lies_in, template_stays}
 
 -- ---- the state of what was found
 
@@ -124,9 +77,38 @@ module _ (opens : Opens) (root : Text) (files : Files) (found : Found) (table : 
     refl,
   )
 
+  rule_path_at : (folder : Text) → Contains found.seen.rules.items folder → Text
+  rule_path_at folder has = ((is.survey.found.rules folder).0 has).1
+
+  -- where the rule of a folder lies that has one
+  record IsRuleAt (folder path : Text) : Type 0 where
+    row : ℕ
+    inside : row < length found.mounts
+    own : IsFolderOf found.mounts row folder
+    path_is : path ≡ rule_path found.mounts row folder
+
+  rule_found_at : (folder : Text) (has : Contains found.seen.rules.items folder) → IsRuleAt folder (rule_path_at folder has)
+  unfolding rule_path_at
+  rule_found_at folder has =
+      let t = (is.survey.found.rules folder).0 has in
+      let lies = subst (λ (w : Kind). LiesAs found.mounts t.0 w t.1) t.7 t.6 in
+      record { row = t.0; inside = t.3; own = folder_of_rule found.mounts t.0 t.1 folder lies; path_is = path_of_rule found.mounts t.0 t.1 folder lies }
+
+  has_rule : (folder bytes : Text) (k : ℕ) → IsFolderOf found.mounts k folder → files (rule_path found.mounts k folder) ≡ Some bytes → Contains found.seen.rules.items folder
+  has_rule folder bytes k own there = (is.survey.found.rules folder).1 (
+    k,
+    rule_path found.mounts k folder,
+    Rule folder,
+    own.1.inside,
+    rule_lies_in found.mounts k folder own,
+    (bytes, rule_stays root files found.mounts k folder table own ∙ there),
+    rule_lies_as found.mounts k folder own,
+    refl,
+  )
+
   -- the paths of what was found
   owned_paths : List Text
-  owned_paths = mounts_path root ∷ (values_of found.seen.names.items (λ name has. secret_path found.mounts name) ++ values_of found.seen.templates.items path_at)
+  owned_paths = mounts_path root ∷ (values_of found.seen.names.items (λ name has. secret_path found.mounts name) ++ (values_of found.seen.rules.items rule_path_at ++ values_of found.seen.templates.items path_at))
 
   rest_at : Files
   rest_at path = if is_outside root path || is_among owned_paths path then None else files path
@@ -134,6 +116,7 @@ module _ (opens : Opens) (root : Text) (files : Files) (found : Found) (table : 
   pub found_state : State
   found_state = record {
     mounts = found.mounts;
+    rules = found.rules;
     rows = map.from_sorted (tabled found.seen.names.items cell_at);
     templates = map.from_sorted (tabled found.seen.templates.items bytes_at);
     rest = rest_at;
@@ -142,6 +125,22 @@ module _ (opens : Opens) (root : Text) (files : Files) (found : Found) (table : 
   by_none : (file : Option Text) → ((bytes : Text) → file ≡ Some bytes → ⊥) → file ≡ None
   by_none None h = refl
   by_none (Some bytes) h = absurd (h bytes refl)
+
+  ruled : (folder : Text) (k : ℕ) (among : Bool) → IsFolderOf found.mounts k folder → is_among found.seen.rules.items folder ≡ among → IsRuleOf (files (rule_path found.mounts k folder)) (rule_at found.rules folder)
+  ruled folder k true own e =
+      let (j, here, there) = is.rules_are.each folder ((is_among_tells found.seen.rules.items folder).0 e) in
+      let same : j ≡ k = one_folder_row root folder found.mounts j k table here own.1 in
+      subst (λ file. IsRuleOf file (rule_at found.rules folder)) (ap (λ n. without_service root files (rule_path found.mounts n folder)) same ∙ rule_shown root files found.mounts k folder table own) there
+  ruled folder k false own e =
+      let out : Contains found.seen.rules.items folder → ⊥ = λ has. differs (sym ((is_among_tells found.seen.rules.items folder).1 has) ∙ e) in
+      let none = by_none (files (rule_path found.mounts k folder)) (λ bytes there. out (has_rule folder bytes k own there)) in
+      subst (λ file. IsRuleOf file (rule_at found.rules folder)) (sym none) (is.rules_are.others folder out)
+    where
+      differs : true ≡ false → ⊥
+      differs e = cc
+
+  no_rule_is : (folder : Text) → ¬ ((k : ℕ) × IsFolderOf found.mounts k folder) → rule_at found.rules folder ≡ None
+  no_rule_is folder other = is.rules_are.others folder (λ has. (let t = rule_found_at folder has in other (t.row, t.own)))
 
   row_is : (name : Text) → IsName name → find (slice_cmp nat_cmp) name (tabled found.seen.names.items cell_at) ≡ option_map (cell_of opens) (files (secret_path found.mounts name))
   unfolding cell_at
@@ -176,30 +175,47 @@ module _ (opens : Opens) (root : Text) (files : Files) (found : Found) (table : 
   owned_listed path bytes (inl mounts_file) there = (0, omega arith, sym mounts_file)
   owned_listed path bytes (inr (inl (name, good, same))) there =
       let names = values_of found.seen.names.items (λ name has. secret_path found.mounts name) in
+      let rules = values_of found.seen.rules.items rule_path_at in
       let templates = values_of found.seen.templates.items path_at in
       let has = (names_found root files found table is name).1 (good, (bytes, ap files (sym same) ∙ there)) in
       let listed = (value_there found.seen.names.items (λ name has. secret_path found.mounts name) name has).1 in
-      behind (mounts_path root) (names ++ templates) path (Contains-append_left names templates path (subst (Contains names) (sym same) listed))
-  owned_listed path bytes (inr (inr (folder, k, own, same))) there =
+      behind (mounts_path root) (names ++ (rules ++ templates)) path (Contains-append_left names (rules ++ templates) path (subst (Contains names) (sym same) listed))
+  owned_listed path bytes (inr (inr (folder, k, own, inl same))) there =
       let names = values_of found.seen.names.items (λ name has. secret_path found.mounts name) in
+      let rules = values_of found.seen.rules.items rule_path_at in
+      let templates = values_of found.seen.templates.items path_at in
+      let has = has_rule folder bytes k own (ap files (sym same) ∙ there) in
+      let (there_has, listed) = value_there found.seen.rules.items rule_path_at folder has in
+      let t = rule_found_at folder there_has in
+      let row : t.row ≡ k = one_folder_row root folder found.mounts t.row k table t.own.1 own.1 in
+      let path_same : rule_path_at folder there_has ≡ path = t.path_is ∙ (ap (λ n. rule_path found.mounts n folder) row ∙ sym same) in
+      behind (mounts_path root) (names ++ (rules ++ templates)) path (Contains-append_right names (rules ++ templates) path (Contains-append_left rules templates path (subst (Contains rules) path_same listed)))
+  owned_listed path bytes (inr (inr (folder, k, own, inr same))) there =
+      let names = values_of found.seen.names.items (λ name has. secret_path found.mounts name) in
+      let rules = values_of found.seen.rules.items rule_path_at in
       let templates = values_of found.seen.templates.items path_at in
       let has = has_template folder bytes k own (ap files (sym same) ∙ there) in
       let (there_has, listed) = value_there found.seen.templates.items path_at folder has in
       let t = template_at folder there_has in
       let row : t.row ≡ k = one_folder_row root folder found.mounts t.row k table t.own.1 own.1 in
       let path_same : path_at folder there_has ≡ path = t.path_is ∙ (ap (λ n. template_path found.mounts n folder) row ∙ sym same) in
-      behind (mounts_path root) (names ++ templates) path (Contains-append_right names templates path (subst (Contains templates) path_same listed))
+      behind (mounts_path root) (names ++ (rules ++ templates)) path (Contains-append_right names (rules ++ templates) path (Contains-append_right rules templates path (subst (Contains templates) path_same listed)))
 
   listed_owned : (path : Text) → Contains owned_paths path → IsOwned root found.mounts path
   unfolding owned_paths
-  listed_owned path has = elim (first_or (mounts_path root) (values_of found.seen.names.items (λ name h. secret_path found.mounts name) ++ values_of found.seen.templates.items path_at) path has) [
+  listed_owned path has = elim (first_or (mounts_path root) (values_of found.seen.names.items (λ name h. secret_path found.mounts name) ++ (values_of found.seen.rules.items rule_path_at ++ values_of found.seen.templates.items path_at)) path has) [
     | inl first ↦ inl (sym first)
-    | inr more ↦ elim (Contains-append_cases (values_of found.seen.names.items (λ name h. secret_path found.mounts name)) (values_of found.seen.templates.items path_at) path more) [
+    | inr more ↦ elim (Contains-append_cases (values_of found.seen.names.items (λ name h. secret_path found.mounts name)) (values_of found.seen.rules.items rule_path_at ++ values_of found.seen.templates.items path_at) path more) [
       | inl secret ↦ (let (name, h, same) = key_of_value found.seen.names.items (λ name h. secret_path found.mounts name) path secret in
           inr (inl (name, ((names_found root files found table is name).0 h).0, sym same)))
-      | inr template ↦ (let (folder, h, same) = key_of_value found.seen.templates.items path_at path template in
-          let t = template_at folder h in
-          inr (inr (folder, t.row, t.own, sym same ∙ t.path_is)))
+      | inr files_of ↦ elim (Contains-append_cases (values_of found.seen.rules.items rule_path_at) (values_of found.seen.templates.items path_at) path files_of) [
+        | inl rule ↦ (let (folder, h, same) = key_of_value found.seen.rules.items rule_path_at path rule in
+            let t = rule_found_at folder h in
+            inr (inr (folder, t.row, t.own, inl (sym same ∙ t.path_is))))
+        | inr template ↦ (let (folder, h, same) = key_of_value found.seen.templates.items path_at path template in
+            let t = template_at folder h in
+            inr (inr (folder, t.row, t.own, inr (sym same ∙ t.path_is))))
+      ]
     ]
   ]
 
@@ -233,6 +249,8 @@ module _ (opens : Opens) (root : Text) (files : Files) (found : Found) (table : 
   unfolding found_state
   found_stands = record {
     mounts_are = is.mounts_are;
+    rule = λ folder k own. ruled folder k (is_among found.seen.rules.items folder) own refl;
+    no_rule = no_rule_is;
     row = λ name good. map.get-from_sorted (slice_cmp nat_cmp) (tabled found.seen.names.items cell_at) name (sorted_tabled found.seen.names.items cell_at is.rising.names) ∙ row_is name good;
     no_row = λ name other. map.get-from_sorted (slice_cmp nat_cmp) (tabled found.seen.names.items cell_at) name (sorted_tabled found.seen.names.items cell_at is.rising.names) ∙ no_row_is name other;
     template = λ folder k own. map.get-from_sorted (slice_cmp nat_cmp) (tabled found.seen.templates.items bytes_at) folder (sorted_tabled found.seen.templates.items bytes_at is.rising.templates) ∙ template_is folder k own;
@@ -249,3 +267,7 @@ module _ (opens : Opens) (root : Text) (files : Files) (found : Found) (table : 
   pub found_mounts : found_state.mounts ≡ found.mounts
   unfolding found_state
   found_mounts = refl
+
+  pub found_rules : found_state.rules ≡ found.rules
+  unfolding found_state
+  found_rules = refl

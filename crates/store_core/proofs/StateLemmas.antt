@@ -15,7 +15,10 @@ use Rattle.mount_table.specs.declared.mounts.Row.{Row}
 use Rattle.mount_table.proofs.LineLemmas.{one_text}
 use Rattle.disk_model.specs.Files.{Files}
 use Rattle.cipher_port.specs.Tool.{Opens}
-use Rattle.store_core.specs.Places.{IsFolderOf, secret_path, template_path}
+use Rattle.recipient_files.specs.Ids.{Ids}
+use Rattle.recipient_files.proofs.SetLemmas.{one_set}
+use Rattle.store_core.specs.Places.{IsFolderOf, rule_path, secret_path, template_path}
+use Rattle.store_core.specs.RuleFiles.{IsRuleOf}
 use Rattle.store_core.specs.State.{Cell, Sealed, Broken, State, AreMounts, IsOwned, StandsFor, cell_of, is_outside, mounts_path}
 
 -- ---- values that tests tell apart
@@ -76,6 +79,20 @@ one_table : (root : Text) (file : Option Text) (m n : List Row) → AreMounts ro
 one_table root None m n h k = h ∙ sym k
 one_table root (Some bytes) m n h k = one_text root root m n h.0 k.0 (sym h.1 ∙ k.1)
 
+one_rule : (file : Option Text) (a b : Option Ids) → IsRuleOf file a → IsRuleOf file b → a ≡ b
+one_rule None a b h k = h ∙ sym k
+one_rule (Some bytes) (Some a) (Some b) h k = ap Some (one_set a b h.rule.set_of.rising k.rule.set_of.rising (λ id. (λ has. (k.rule.set_of.same id).1 ((h.rule.set_of.same id).0 has), λ has. (h.rule.set_of.same id).1 ((k.rule.set_of.same id).0 has))))
+one_rule (Some bytes) (Some a) None h k = absurd k
+one_rule (Some bytes) None b h k = absurd h
+
+one_rules : (opens : Opens) (root : Text) (files : Files) (a b : State) → a.mounts ≡ b.mounts → StandsFor opens root files a → StandsFor opens root files b → a.rules ≡ b.rules
+one_rules opens root files a b same h k = map.same_map nat_list_cmp_total (slice_cmp-IsAntisymmetric nat_cmp-IsAntisymmetric) a.rules b.rules (λ folder.
+    either_way (option_eq (pointwise bytes_eq) (map.get a.rules folder) (map.get b.rules folder)) ((k : ℕ) × IsFolderOf a.mounts k folder) (map.get a.rules folder ≡ map.get b.rules folder)
+    (option_tells (pointwise bytes_eq) (pointwise_decides bytes_eq-Decides) (map.get a.rules folder) (map.get b.rules folder))
+    (λ (n, here). one_rule (files (rule_path a.mounts n folder)) (map.get a.rules folder) (map.get b.rules folder) (h.rule folder n here)
+    (subst (λ (mounts : List Row). IsRuleOf (files (rule_path mounts n folder)) (map.get b.rules folder)) (sym same) (k.rule folder n (subst (λ (mounts : List Row). IsFolderOf mounts n folder) same here))))
+    (λ other. h.no_rule folder other ∙ sym (k.no_rule folder (subst (λ (mounts : List Row). ¬ ((k : ℕ) × IsFolderOf mounts k folder)) same other))))
+
 one_rows : (opens : Opens) (root : Text) (files : Files) (a b : State) → a.mounts ≡ b.mounts → StandsFor opens root files a → StandsFor opens root files b → a.rows ≡ b.rows
 one_rows opens root files a b same h k = map.same_map nat_list_cmp_total (slice_cmp-IsAntisymmetric nat_cmp-IsAntisymmetric) a.rows b.rows (λ name.
     either_way (option_eq cell_eq (map.get a.rows name) (map.get b.rows name)) (IsName name) (map.get a.rows name ≡ map.get b.rows name)
@@ -106,7 +123,8 @@ one_rest opens root files a b same h k = fun_ext (λ path. by path (is_outside r
 pub one_state : (opens : Opens) (root : Text) (files : Files) (a b : State) → StandsFor opens root files a → StandsFor opens root files b → a ≡ b
 one_state opens root files a b h k =
     let mounts = one_table root (files (mounts_path root)) a.mounts b.mounts h.mounts_are k.mounts_are in
+    let rules = one_rules opens root files a b mounts h k in
     let rows = one_rows opens root files a b mounts h k in
     let templates = one_templates opens root files a b mounts h k in
     let rest = one_rest opens root files a b mounts h k in
-    λ i. record { mounts = mounts i; rows = rows i; templates = templates i; rest = rest i }
+    λ i. record { mounts = mounts i; rules = rules i; rows = rows i; templates = templates i; rest = rest i }

@@ -17,7 +17,7 @@ use Rattle.store_core.specs.declared.fault.StoreFault.{StoreFault}
 use Rattle.store_core.specs.declared.fault.StoreFault.TheVariants.{BadFile, Full, Disk, NoMemory}
 use Rattle.store_core.specs.declared.fault.Limit.TheVariants as limit
 use Rattle.store_core.specs.Faults.{Lists}
-use Rattle.store_core.specs.Found.{LiesAs, HasMore, GivesName, GivesTemplate, GivesStrange, GivesShadowed}
+use Rattle.store_core.specs.Found.{LiesAs, HasMore, GivesName, GivesRule, GivesTemplate, GivesStrange, GivesShadowed}
 use Rattle.store_core.specs.Tree.{IsTree, IsFullTree, tree_files}
 use Rattle.store_core.specs.Survey.{IsMountSeen, IsOfFiles, IsSeen, IsCountOf, IsFullMount}
 
@@ -55,6 +55,7 @@ module _ (Gives : Kind → Text → Text → Type 0) (root : Text) (files : File
 pub seen_more : (root : Text) (files : Files) (mounts : List Row) (n m count : ℕ) (old new : Seen) → m ≡ n + 1 → IsSeen root files mounts n old → IsMountSeen root files mounts n old new count → IsSeen root files mounts m new
 seen_more root files mounts n m count old new next so_far (paths, tree, grown, many) = record {
   names = one_more GivesName root files mounts n m paths old.names.items new.names.items next so_far.names tree grown.names;
+  rules = one_more GivesRule root files mounts n m paths old.rules.items new.rules.items next so_far.rules tree grown.rules;
   templates = one_more GivesTemplate root files mounts n m paths old.templates.items new.templates.items next so_far.templates tree grown.templates;
   strange = one_more GivesStrange root files mounts n m paths old.strange.items new.strange.items next so_far.strange tree grown.strange;
   shadowed = one_more GivesShadowed root files mounts n m paths old.shadowed.items new.shadowed.items next so_far.shadowed tree grown.shadowed;

@@ -26,7 +26,7 @@ both_on : (a b : Bool) → T a → T b → T (a && b)
 both_on true b p q = q
 both_on false b p q = absurd p
 
-ties : (q key : Text) → q ≡ key → eq_by_cmp (slice_cmp nat_cmp) q key ≡ true
+pub ties : (q key : Text) → q ≡ key → eq_by_cmp (slice_cmp nat_cmp) q key ≡ true
 ties q key same = ap is_eq (subst (λ (t : Text). slice_cmp nat_cmp q t ≡ Equal) same (tied_itself nat_list_cmp_total q))
 
 pub equal : (o : Ordering) → is_eq o ≡ true → o ≡ Equal

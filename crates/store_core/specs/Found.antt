@@ -5,7 +5,7 @@ use Rattle.mount_table.specs.Paths.{path_in}
 use Rattle.mount_table.specs.Mounts.{row_at}
 use Rattle.mount_table.specs.declared.mounts.Row.{Row}
 use Rattle.store_core.specs.declared.kind.Kind.{Kind}
-use Rattle.store_core.specs.declared.kind.Kind.TheVariants.{Secret, Template, Shadowed, Strange}
+use Rattle.store_core.specs.declared.kind.Kind.TheVariants.{Secret, Rule, Template, Shadowed, Strange}
 use Rattle.store_core.specs.declared.seen.Seen.{Seen}
 use Rattle.store_core.specs.Places.{IsKind}
 
@@ -13,9 +13,13 @@ use Rattle.store_core.specs.Places.{IsKind}
 abbrev pub LiesAs : List Row → ℕ → Kind → Text → Type 0
 LiesAs mounts k kind path = (rest : Text) × (path ≡ path_in (row_at mounts k).dir rest) × IsKind mounts k rest kind
 
--- what a path of a kind gives: the name of a secret, the folder of a template, or itself where it is strange or shadowed
+-- what a path of a kind gives: the name of a secret, the folder of a rule or a template, or itself where it is strange or
+-- shadowed
 abbrev pub GivesName : Kind → (path name : Text) → Type 0
 GivesName kind path name = kind ≡ Secret name
+
+abbrev pub GivesRule : Kind → (path folder : Text) → Type 0
+GivesRule kind path folder = kind ≡ Rule folder
 
 abbrev pub GivesTemplate : Kind → (path folder : Text) → Type 0
 GivesTemplate kind path folder = kind ≡ Template folder
@@ -32,6 +36,10 @@ abbrev pub name_in : Kind → List Text
 name_in (Secret name) = name ∷ []
 name_in _ = []
 
+abbrev pub rule_in : Kind → List Text
+rule_in (Rule folder) = folder ∷ []
+rule_in _ = []
+
 abbrev pub template_in : Kind → List Text
 template_in (Template folder) = folder ∷ []
 template_in _ = []
@@ -46,6 +54,7 @@ shadowed_in _ path = []
 
 pub record IsWith (old new : Seen) (kind : Kind) (path : Text) : Type 0 where
   pub names : new.names.items ≡ old.names.items ++ name_in kind
+  pub rules : new.rules.items ≡ old.rules.items ++ rule_in kind
   pub templates : new.templates.items ≡ old.templates.items ++ template_in kind
   pub strange : new.strange.items ≡ old.strange.items ++ strange_in kind path
   pub shadowed : new.shadowed.items ≡ old.shadowed.items ++ shadowed_in kind path
@@ -59,6 +68,7 @@ HasMore Gives mounts k paths old new =
 
 pub record IsGrown (mounts : List Row) (k : ℕ) (paths : List Text) (old new : Seen) : Type 0 where
   pub names : HasMore GivesName mounts k paths old.names.items new.names.items
+  pub rules : HasMore GivesRule mounts k paths old.rules.items new.rules.items
   pub templates : HasMore GivesTemplate mounts k paths old.templates.items new.templates.items
   pub strange : HasMore GivesStrange mounts k paths old.strange.items new.strange.items
   pub shadowed : HasMore GivesShadowed mounts k paths old.shadowed.items new.shadowed.items

@@ -1,4 +1,5 @@
 pub mod Places
+pub mod RuleFiles
 pub mod State
 pub mod Found
 pub mod Tree

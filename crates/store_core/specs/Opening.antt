@@ -1,5 +1,5 @@
 -- What the opening of a store finds, or what refuses it.
-use Rattle.std.specs.Prelude.{◌≡◌, ◌≢◌, ◌⊎◌, ℕ, ◌<◌, ◌≤◌, List, length, Option, None, Some, Result, Ok, Err}
+use Rattle.std.specs.Prelude.{◌≡◌, ◌≢◌, ◌⊎◌, ℕ, ◌<◌, ◌≤◌, List, length, Contains, Option, None, Some, Result, Ok, Err}
 use Rattle.gopass_base.specs.Text.{Text}
 use Rattle.mount_table.specs.Paths.{path_in, service_text}
 use Rattle.mount_table.specs.Mounts.{IsTable}
@@ -15,6 +15,7 @@ use Rattle.store_core.specs.declared.opening.Found.{Found}
 use Rattle.store_core.specs.Order.{AreRising}
 use Rattle.store_core.specs.Survey.{IsFullMount, IsSurvey}
 use Rattle.store_core.specs.State.{AreMounts, mounts_path}
+use Rattle.store_core.specs.RuleFiles.{AreRules, IsBadThere}
 
 -- the first bad line of a mounts file; 0 where it has more than 131,072 bytes
 abbrev pub IsBadMounts : (root bytes : Text) → ℕ → Type 0
@@ -41,14 +42,16 @@ TellsPending root file (Err Disk) = Unit {0}
 TellsPending root file (Err NoMemory) = Unit {0}
 TellsPending root file (Err (Full kind)) = ⊥
 
--- what an opening finds: the mounts that the mounts file tells, no pending file, and what lies below the mounts
+-- what an opening finds: the mounts that the mounts file tells, no pending file, what lies below the mounts, and the rules
 pub record IsFound (root : Text) (files : Files) (found : Found) : Type 0 where
   pub mounts_are : AreMounts root (files (mounts_path root)) found.mounts
   pub table : IsTable root found.mounts
   pub no_pending : files (pending_path root) ≡ None
   pub survey : IsSurvey root files found.mounts found.seen found.counts.items
   pub rising : AreRising found.seen
+  pub few_rules : length found.seen.rules.items ≤ 512
   pub few : length found.seen.names.items ≤ 8192
+  pub rules_are : AreRules root files found.mounts found.seen.rules.items found.rules
 
 -- the mounts file is bad
 abbrev pub HasBadMounts : (root : Text) → Files → (path : Text) → ℕ → Type 0
@@ -62,17 +65,35 @@ HasPending root files path line = (mounts : List Row) × AreMounts root (files (
 abbrev pub HasManyFiles : (root : Text) → Files → Type 0
 HasManyFiles root files = (mounts : List Row) × AreMounts root (files (mounts_path root)) mounts × (files (pending_path root) ≡ None) × IsFullMount root files mounts
 
--- no mount has too many files, and there are too many secrets
+-- the mounts file is good, no pending file is there, and this lies below the mounts
+pub record IsSurveyed (root : Text) (files : Files) (mounts : List Row) (seen : Seen) : Type 0 where
+  pub mounts_are : AreMounts root (files (mounts_path root)) mounts
+  pub no_pending : files (pending_path root) ≡ None
+  pub counts : List ℕ
+  pub survey : IsSurvey root files mounts seen counts
+  pub rising : AreRising seen
+
+-- no mount has too many files, and there are too many rules
+abbrev pub HasManyRules : (root : Text) → Files → Type 0
+HasManyRules root files = (mounts : List Row) × (seen : Seen) × IsSurveyed root files mounts seen × (512 < length seen.rules.items)
+
+-- there are not too many rules, and too many secrets
 abbrev pub HasManySecrets : (root : Text) → Files → Type 0
 HasManySecrets root files =
-    (mounts : List Row) × (seen : Seen) × (counts : List ℕ) × AreMounts root (files (mounts_path root)) mounts × (files (pending_path root) ≡ None) × IsSurvey root files mounts seen counts
-    × AreRising seen × (8192 < length seen.names.items)
+    (mounts : List Row) × (seen : Seen) × IsSurveyed root files mounts seen × (length seen.rules.items ≤ 512) × (8192 < length seen.names.items)
+
+-- there are not too many of either, and a rule file is bad
+abbrev pub HasBadRule : (root : Text) → Files → (path : Text) → ℕ → Type 0
+HasBadRule root files path line =
+    (mounts : List Row) × (seen : Seen) × IsSurveyed root files mounts seen × (length seen.rules.items ≤ 512) × (length seen.names.items ≤ 8192)
+    × (folder : Text) × Contains seen.rules.items folder × IsBadThere root files mounts folder path line
 
 -- what is found, or the first of these that refuses it
 abbrev pub Opens : (root : Text) → Files → Result Found StoreFault → Type 0
 Opens root files (Ok found) = IsFound root files found
-Opens root files (Err (BadFile path line)) = HasBadMounts root files path line ⊎ HasPending root files path line
+Opens root files (Err (BadFile path line)) = HasBadMounts root files path line ⊎ (HasPending root files path line ⊎ HasBadRule root files path line)
 Opens root files (Err (Full limit.Files)) = HasManyFiles root files
+Opens root files (Err (Full limit.Rules)) = HasManyRules root files
 Opens root files (Err (Full limit.Secrets)) = HasManySecrets root files
 Opens root files (Err Disk) = Unit {0}
 Opens root files (Err NoMemory) = Unit {0}

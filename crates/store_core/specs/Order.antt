@@ -13,6 +13,7 @@ IsRising texts = IsStrictlySortedBy (slice_cmp nat_cmp) texts
 -- each list of what was found
 pub record AreRising (seen : Seen) : Type 0 where
   pub names : IsRising seen.names.items
+  pub rules : IsRising seen.rules.items
   pub templates : IsRising seen.templates.items
   pub strange : IsRising seen.strange.items
   pub shadowed : IsRising seen.shadowed.items
@@ -24,6 +25,7 @@ pub record IsInOrder (texts now : List Text) : Type 0 where
 
 pub record IsOrdered (seen now : Seen) : Type 0 where
   pub names : IsInOrder seen.names.items now.names.items
+  pub rules : IsInOrder seen.rules.items now.rules.items
   pub templates : IsInOrder seen.templates.items now.templates.items
   pub strange : IsInOrder seen.strange.items now.strange.items
   pub shadowed : IsInOrder seen.shadowed.items now.shadowed.items

@@ -82,16 +82,27 @@ IsKind mounts k rest Shadowed =
 IsKind mounts k rest Hidden = HasHidden rest × ((folder : Text) → ¬ IsRuleOrTemplate (row_at mounts k).alias rest folder)
 IsKind mounts k rest Strange = (¬ HasHidden rest) × ((name : Text) → ¬ IsSecretAt (row_at mounts k).alias rest name)
 
--- ---- the file of a template
+-- ---- the files of a folder
 
 -- the rest of a folder below the mount that its alias reaches
 abbrev pub folder_rest : (alias folder : Text) → Text
 folder_rest [] folder = folder
 folder_rest (b ∷ alias) folder = drop (length (b ∷ alias) + 1) folder
 
--- the file of the folder's template, in the k-th mount
+-- a file of the folder, in the k-th mount
+abbrev pub folder_path : List Row → ℕ → (folder file : Text) → Text
+folder_path mounts k folder file = path_in (row_at mounts k).dir (in_folder (folder_rest (row_at mounts k).alias folder) file)
+
+-- the folder's rule, and its template
+abbrev pub rule_path : List Row → ℕ → Text → Text
+rule_path mounts k folder = folder_path mounts k folder rule_file
+
 abbrev pub template_path : List Row → ℕ → Text → Text
-template_path mounts k folder = path_in (row_at mounts k).dir (in_folder (folder_rest (row_at mounts k).alias folder) template_file)
+template_path mounts k folder = folder_path mounts k folder template_file
+
+-- the name is that of one of the two
+abbrev pub IsFolderFile : Text → Type 0
+IsFolderFile file = (file ≡ rule_file) ⊎ (file ≡ template_file)
 
 -- the folder belongs to the k-th mount
 abbrev pub IsFolderOf : List Row → ℕ → Text → Type 0

@@ -14,7 +14,9 @@ use Rattle.disk_model.specs.Files.{Files}
 use Rattle.disk_model.specs.Listing.{has_git}
 use Rattle.pending_journal.specs.Service.{is_service}
 use Rattle.cipher_port.specs.Tool.{Content, Opens}
-use Rattle.store_core.specs.Places.{secret_path, template_path, IsFolderOf}
+use Rattle.path_rules.specs.RuleMap.{RuleMap, rule_at}
+use Rattle.store_core.specs.Places.{secret_path, rule_path, template_path, IsFolderOf}
+use Rattle.store_core.specs.RuleFiles.{IsRuleOf}
 
 -- a finite map from texts, in the order of bytes
 abbrev pub TextMap : Type 0 → Type 0
@@ -32,10 +34,11 @@ cell_with None bytes = Broken bytes
 abbrev pub cell_of : Opens → Text → Cell
 cell_of opens bytes = cell_with (opens bytes) bytes
 
--- the mounts; the secrets, each under its name; the templates, each under its folder; and the bytes at each other path of
--- the store
+-- the mounts; the rules, each under its folder; the secrets, each under its name; the templates, each under its folder; and
+-- the bytes at each other path of the store
 pub record State : Type 0 where
   pub mounts : List Row
+  pub rules : RuleMap
   pub rows : TextMap Cell
   pub templates : TextMap Text
   pub rest : Files
@@ -48,21 +51,24 @@ AreMounts root (Some bytes) mounts = IsTable root mounts × (bytes ≡ text_of m
 abbrev pub mounts_path : Text → Text
 mounts_path root = path_in root (service_text Mounts)
 
--- the path is a part of the state: the file of the mounts, or that of a secret or a template
+-- the path is a part of the state: the file of the mounts, or that of a secret, a rule or a template
 abbrev pub IsOwned : (root : Text) → List Row → Text → Type 0
 IsOwned root mounts path =
     (path ≡ mounts_path root)
     ⊎ (((name : Text) × IsName name × (path ≡ secret_path mounts name))
-    ⊎ ((folder : Text) × (k : ℕ) × IsFolderOf mounts k folder × (path ≡ template_path mounts k folder)))
+    ⊎ ((folder : Text) × (k : ℕ) × IsFolderOf mounts k folder × ((path ≡ rule_path mounts k folder) ⊎ (path ≡ template_path mounts k folder))))
 
 -- the path is none of a store: it is one of the vault's own, or has a part `.git`
 abbrev pub is_outside : (root path : Text) → Bool
 is_outside root path = is_service root path || has_git path
 
 -- the files stand for the state: its mounts are those of the mounts file; at each name it has what lies at the file of
--- the secret, at each folder what lies at the file of its template, and at each other path of a store what lies there
+-- the secret, at each folder the rule that its rule file tells and what lies at the file of its template, and at each other
+-- path of a store what lies there
 pub record StandsFor (opens : Opens) (root : Text) (files : Files) (state : State) : Type 0 where
   pub mounts_are : AreMounts root (files (mounts_path root)) state.mounts
+  pub rule : (folder : Text) (k : ℕ) → IsFolderOf state.mounts k folder → IsRuleOf (files (rule_path state.mounts k folder)) (rule_at state.rules folder)
+  pub no_rule : (folder : Text) → ¬ ((k : ℕ) × IsFolderOf state.mounts k folder) → rule_at state.rules folder ≡ None
   pub row : (name : Text) → IsName name → map.get state.rows name ≡ option_map (cell_of opens) (files (secret_path state.mounts name))
   pub no_row : (name : Text) → ¬ IsName name → map.get state.rows name ≡ None
   pub template : (folder : Text) (k : ℕ) → IsFolderOf state.mounts k folder → map.get state.templates folder ≡ files (template_path state.mounts k folder)

@@ -7,7 +7,7 @@ use Rattle.disk_model.specs.Files.{Files}
 use Rattle.disk_model.specs.Listing.{LiesIn, IsThere}
 use Rattle.store_core.specs.declared.kind.Kind.{Kind}
 use Rattle.store_core.specs.declared.seen.Seen.{Seen}
-use Rattle.store_core.specs.Found.{LiesAs, GivesName, GivesTemplate, GivesStrange, GivesShadowed, IsGrown}
+use Rattle.store_core.specs.Found.{LiesAs, GivesName, GivesRule, GivesTemplate, GivesStrange, GivesShadowed, IsGrown}
 use Rattle.store_core.specs.Tree.{IsTree, IsFullTree, tree_files}
 
 -- one mount was listed: its paths were added, and they are so many
@@ -23,6 +23,7 @@ IsOfFiles Gives root files mounts n list =
 -- the first n mounts were listed
 pub record IsSeen (root : Text) (files : Files) (mounts : List Row) (n : ℕ) (seen : Seen) : Type 0 where
   pub names : IsOfFiles GivesName root files mounts n seen.names.items
+  pub rules : IsOfFiles GivesRule root files mounts n seen.rules.items
   pub templates : IsOfFiles GivesTemplate root files mounts n seen.templates.items
   pub strange : IsOfFiles GivesStrange root files mounts n seen.strange.items
   pub shadowed : IsOfFiles GivesShadowed root files mounts n seen.shadowed.items

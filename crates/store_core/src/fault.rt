@@ -6,6 +6,7 @@ ghost use Rattle.store_core.specs.declared.fault.StoreFault.TheVariants.{NoMemor
 use disk_model::DiskFault;
 use gopass_base::NoMemory;
 use mount_table::FilePath;
+use path_rules::RulesFault;
 use std::alloc::{AllocError, AllocFailed};
 
 /// A number of the store that has a greatest value.
@@ -62,6 +63,20 @@ impl<T: Drop> From<AllocFailed<T>> for StoreFault {
 
     fn from(_: AllocFailed<T>) -> Self {
         StoreFault::NoMemory
+    }
+}
+
+impl From<RulesFault> for StoreFault {
+    ghost use Rattle.std.specs.Prelude.{◌≡◌};
+    ghost use Rattle.store_core.specs.Faults.{fault_of_rules};
+
+    ghost from_gives = { λ fault e. e ≡ fault_of_rules fault };
+
+    fn from(fault: RulesFault) -> Self {
+        match fault {
+            RulesFault::Full => StoreFault::Full(Limit::Rules),
+            RulesFault::NoMemory => StoreFault::NoMemory,
+        }
     }
 }
 

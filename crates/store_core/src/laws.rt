@@ -18,9 +18,9 @@ pub fn names_of_secrets()
         → (name : Text) → Contains found.seen.names.items name ↔ (IsName name × IsThere files (secret_path found.mounts name)) }
 {}
 
-/// The files of a store that opens stand for a state, whatever the tool opens: its mounts and the
-/// names of its secrets are those that the opening found.
+/// The files of a store that opens stand for a state, whatever the tool opens: its mounts, its
+/// rules and the names of its secrets are those that the opening found.
 pub fn state_of_store()
     ensures { (opens : Opens) (root : Text) (files : Files) (found : Found) → IsFound root files found
-        → (state : State) × StandsFor opens root files state × (state.mounts ≡ found.mounts) × (map.keys state.rows ≡ found.seen.names.items) }
+        → (state : State) × StandsFor opens root files state × (state.mounts ≡ found.mounts) × (state.rules ≡ found.rules) × (map.keys state.rows ≡ found.seen.names.items) }
 {}

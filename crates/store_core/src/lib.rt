@@ -2,12 +2,14 @@
 #![tactic(auto)]
 
 mod fault;
+mod folder_file;
 mod kind;
 mod laws;
 mod open_store;
 mod opening;
 mod reads;
 mod refusal;
+mod rule_files;
 mod seen;
 mod show;
 mod state;

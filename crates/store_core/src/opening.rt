@@ -10,15 +10,20 @@ ghost use Rattle.store_core.specs.Order.{IsInOrder, IsOrdered};
 ghost use Rattle.store_core.specs.Opening.{Opens, TellsMounts, TellsPending, pending_path};
 
 use crate::fault::{Limit, StoreFault};
+use crate::rule_files::read_rules;
 use crate::seen::{Seen, survey};
 use crate::tree::Own;
 use disk_model::{Disk, Got};
 use mount_table::{DirPath, FilePath, Folder, Mounts, MountsFault, Name};
+use path_rules::Rules;
 use pending_journal::Vault;
 use std::alloc::Global;
 
 /// The most bytes of a mounts file.
 const MOST_MOUNTS_BYTES: usize = 131_072;
+
+/// The most folders that have a rule.
+const MOST_RULES: usize = 512;
 
 /// The most secrets of a store.
 const MOST_SECRETS: usize = 8192;
@@ -92,10 +97,12 @@ fn find_no_pending<D: Disk>(
     Ok(())
 }
 
-/// What an opening finds: the mounts, what lies below them, and how many files each has.
+/// What an opening finds: the mounts, the rules, what lies below the mounts, and how many files each
+/// has.
 #[derive(Debug, Drop)]
 pub(crate) struct Found {
     pub(crate) mounts: Mounts,
+    pub(crate) rules: Rules,
     pub(crate) seen: Seen,
     pub(crate) counts: Vec<usize>,
 }
@@ -106,6 +113,7 @@ fn in_order(seen: Seen) -> Seen
 {
     Seen {
         names: names_in_order(seen.names),
+        rules: folders_in_order(seen.rules),
         templates: folders_in_order(seen.templates),
         strange: paths_in_order(seen.strange),
         shadowed: paths_in_order(seen.shadowed),
@@ -139,7 +147,7 @@ fn paths_in_order(paths: Vec<FilePath>) -> Vec<FilePath>
     paths
 }
 
-/// Reads the mounts, looks for a pending file, and lists all mounts.
+/// Reads the mounts, looks for a pending file, lists all mounts, and reads the rules.
 pub(crate) fn survey_all<D: Disk>(
     alloc: Global,
     vault: &mut Vault<D>,
@@ -157,11 +165,16 @@ pub(crate) fn survey_all<D: Disk>(
     find_no_pending(alloc, vault, own)?;
     let (seen, counts) = survey(alloc, vault, own, &mounts)?;
     let seen = in_order(seen);
+    if seen.rules.len() > MOST_RULES {
+        return Err(StoreFault::Full(Limit::Rules));
+    }
     if seen.names.len() > MOST_SECRETS {
         return Err(StoreFault::Full(Limit::Secrets));
     }
+    let rules = read_rules(alloc, vault, &mounts, &seen.rules)?;
     Ok(Found {
         mounts,
+        rules,
         seen,
         counts,
     })

@@ -13,6 +13,7 @@ type Mount<'a> = (&'a str, &'a str);
 #[derive(Drop)]
 struct Plain {
     names: Vec<String>,
+    rules: Vec<String>,
     templates: Vec<String>,
     strange: Vec<String>,
     shadowed: Vec<String>,
@@ -105,9 +106,9 @@ fn look(
     }
     if let Some(folder) = folder_of(rt, alias, rest, ".gpg-id")? {
         if owner(mounts, &folder, false) != alias {
-            add(rt, &mut plain.shadowed, path)?;
+            return add(rt, &mut plain.shadowed, path);
         }
-        return Ok(());
+        return add(rt, &mut plain.rules, &folder);
     }
     if let Some(folder) = folder_of(rt, alias, rest, ".pass-template")? {
         if owner(mounts, &folder, false) != alias {
@@ -142,6 +143,7 @@ fn in_order(rt: &HostRuntime, mut list: Vec<String>, front: &str) -> Result<Stri
 fn found_plainly(rt: &HostRuntime, mounts: &[Mount], files: &[File]) -> Result<Plain, Fail> {
     let mut plain = Plain {
         names: Vec::new(rt.alloc()),
+        rules: Vec::new(rt.alloc()),
         templates: Vec::new(rt.alloc()),
         strange: Vec::new(rt.alloc()),
         shadowed: Vec::new(rt.alloc()),
@@ -166,12 +168,14 @@ fn both(rt: &HostRuntime, mounts: &[Mount], files: &[File]) -> Result<(String, S
     let (ours, wanted) = (
         [
             names(rt, store.names())?,
+            folders(rt, store.rules().folders())?,
             folders(rt, store.templates())?,
             paths(rt, store.strange())?,
             paths(rt, store.shadowed())?,
         ],
         [
             in_order(rt, found.names, "")?,
+            in_order(rt, found.rules, "/")?,
             in_order(rt, found.templates, "/")?,
             in_order(rt, found.strange, "")?,
             in_order(rt, found.shadowed, "")?,
@@ -209,6 +213,9 @@ fn secrets_and_folders_of_one_name(rt: HostRuntime) -> Result<(), Fail> {
             ("root/a/b/c.gpg", b""),
             ("root/a", b""),
             ("root/a.b/c.gpg", b""),
+            ("root/.gpg-id", b"alice\n"),
+            ("root/a/.gpg-id", b"bob\n"),
+            ("root/a.gpg/.gpg-id", b"not read"),
             ("root/.pass-template", b""),
             ("root/a/.pass-template", b""),
             ("root/a.gpg/.pass-template", b""),
@@ -258,6 +265,9 @@ fn mounts_in_mounts(rt: HostRuntime) -> Result<(), Fail> {
             ("w/db.gpg", b""),
             ("w/db/x.gpg", b""),
             ("w/db/.gpg-id", b""),
+            ("w/.gpg-id", b"alice\n"),
+            ("w/dbx/.gpg-id", b"alice\n"),
+            ("d/.gpg-id", b"alice\n"),
             ("w/.pass-template", b""),
             ("w/notes", b""),
             ("d/x.gpg", b""),

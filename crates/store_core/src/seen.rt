@@ -21,10 +21,11 @@ use mount_table::{FilePath, Folder, Mounts, Name};
 use pending_journal::Vault;
 use std::alloc::Global;
 
-/// The secrets and the templates that were found, and the paths that are shadowed or strange.
+/// The secrets, the rules and the templates that were found, and the paths that are shadowed or strange.
 #[derive(Debug, Drop)]
 pub(crate) struct Seen {
     pub(crate) names: Vec<Name>,
+    pub(crate) rules: Vec<Folder>,
     pub(crate) templates: Vec<Folder>,
     pub(crate) strange: Vec<FilePath>,
     pub(crate) shadowed: Vec<FilePath>,
@@ -34,12 +35,14 @@ impl Seen {
     /// Nothing was found yet.
     pub(crate) fn new(alloc: Global) -> Seen
         ensures names { result.names.items ≡ [] }
+        ensures rules { result.rules.items ≡ [] }
         ensures templates { result.templates.items ≡ [] }
         ensures strange { result.strange.items ≡ [] }
         ensures shadowed { result.shadowed.items ≡ [] }
     {
         Seen {
             names: Vec::new(alloc),
+            rules: Vec::new(alloc),
             templates: Vec::new(alloc),
             strange: Vec::new(alloc),
             shadowed: Vec::new(alloc),
@@ -53,10 +56,10 @@ fn add(alloc: Global, seen: &mut Seen, kind: Kind, path: &FilePath) -> Result<()
 {
     match kind {
         Kind::Secret(name) => Ok(seen.names.push(name)?),
+        Kind::Rule(folder) => Ok(seen.rules.push(folder)?),
         Kind::Template(folder) => Ok(seen.templates.push(folder)?),
         Kind::Strange => Ok(seen.strange.push(path.copy(alloc)?)?),
         Kind::Shadowed => Ok(seen.shadowed.push(path.copy(alloc)?)?),
-        Kind::Rule(_) => Ok(()),
         Kind::Hidden => Ok(()),
     }
 }

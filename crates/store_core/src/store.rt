@@ -1,12 +1,15 @@
 //! A store that was opened.
 
-ghost use Rattle.std.specs.Prelude.{◌≡◌, IsFalse, slice_index_or};
+ghost use Rattle.std.specs.Prelude.{◌≡◌, IsFalse, option_map, slice_index_or};
+ghost use Rattle.path_rules.specs.Governing.{governing_ids};
 ghost use Rattle.store_core.specs.Opening.{IsFound};
 
 use crate::opening::Found;
 use disk_model::Disk;
 use mount_table::{FilePath, Folder, Mounts, Name};
+use path_rules::Rules;
 use pending_journal::Vault;
+use recipient_files::Recipients;
 
 /// The secrets of a vault, each under its name, and what else lies below its mounts.
 #[derive(Drop)]
@@ -38,6 +41,24 @@ impl<D: Disk> Store<D> {
         ensures { result.now ≡ self.now.found.mounts }
     {
         &self.found.mounts
+    }
+
+    /// The rules: folders, and the recipients of what is below each.
+    pub fn rules(&self) -> &Rules
+        ensures { result.now ≡ self.now.found.rules }
+    {
+        &self.found.rules
+    }
+
+    /// The recipients of the secret: the rule of the longest folder that holds it, in its mount.
+    /// Nothing is allocated.
+    pub fn governing(&self, name: &Name) -> Option<&Recipients>
+        ensures { option_map (λ set. set.now) result ≡ governing_ids self.now.found.rules self.now.found.mounts name.now }
+    {
+        let mounts = &self.found.mounts;
+        // The rows rise by their aliases, so that one row alone is the mount of the name.
+        let _ = mounts.rows();
+        self.found.rules.governing(name, &mounts.resolve(name))
     }
 
     /// The folders that have a template, by their bytes.

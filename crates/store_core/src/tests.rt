@@ -1,6 +1,7 @@
 use super::*;
+use crate::folder_file::folder_file;
 use disk_model::MemDisk;
-use mount_table::{DirPath, FilePath, Folder, Name};
+use mount_table::{DirPath, FilePath, Folder, Mounts, Name};
 use pending_journal::{Vault, VaultOpened};
 use std::test::*;
 
@@ -118,10 +119,10 @@ fn a_tree_with_mounts_in_mounts(rt: HostRuntime) -> Result<(), Fail> {
 }
 
 #[test]
-fn an_opening_reads_two_files_and_lists_each_mount_once(rt: HostRuntime) -> Result<(), Fail> {
+fn an_opening_reads_each_rule_and_lists_each_mount_once(rt: HostRuntime) -> Result<(), Fail> {
     let store = store(&rt, disk(&rt, TREE)?)?;
-    // The lock, the journal, the mounts file, the pending file, and three listings.
-    assert_eq!(rt; store.into_vault().into_disk().steps(), 7);
+    // The lock, the journal, the mounts file, the pending file, three listings, and a rule file.
+    assert_eq!(rt; store.into_vault().into_disk().steps(), 8);
     Ok(())
 }
 
@@ -138,6 +139,67 @@ fn rows_that_a_folder_holds(rt: HostRuntime) -> Result<(), Fail> {
         let folder = Folder::read(rt.alloc(), text)?;
         let rows = store.rows_under(rt.alloc(), &folder)?;
         assert_eq!(rt; names(&rt, &rows)?.as_str(), held, "{text}");
+    }
+    Ok(())
+}
+
+/// The ids of the rule that governs the name, each with a space behind it.
+fn governed(rt: &HostRuntime, store: &Store<MemDisk>, name: &str) -> Result<String, Fail> {
+    let mut text = String::new(rt.alloc());
+    if let Some(ids) = store.governing(&Name::read(rt.alloc(), name)?) {
+        for id in ids.ids() {
+            text.push_str(id.text())?;
+            text.push(' ')?;
+        }
+    }
+    Ok(text)
+}
+
+#[test]
+fn the_nearest_rule_of_the_mount_governs(rt: HostRuntime) -> Result<(), Fail> {
+    let files: &[File] = &[
+        MOUNTS,
+        ("root/.gpg-id", b"alice\n"),
+        ("root/a/b/.gpg-id", b"bob\n"),
+        ("root/work/x/.gpg-id", b"shadowed, and so not read\n"),
+        ("d/.gpg-id", b"carol\nbob\n"),
+    ];
+    let store = store(&rt, disk(&rt, files)?)?;
+    for (name, ids) in [
+        ("a/bc", "alice "),
+        ("a/b", "alice "),
+        ("a/b/c", "bob "),
+        ("a/b/c/d", "bob "),
+        ("work", "alice "),
+        ("work/x/y", ""),
+        ("work/db", ""),
+        ("work/db/x", "bob carol "),
+    ] {
+        assert_eq!(rt; governed(&rt, &store, name)?.as_str(), ids, "{name}");
+    }
+    assert_eq!(rt;
+        folders(&rt, store.rules().folders())?.as_str(),
+        "/ /a/b /work/db "
+    );
+    Ok(())
+}
+
+#[test]
+fn files_of_folders(rt: HostRuntime) -> Result<(), Fail> {
+    let root = DirPath::read(rt.alloc(), "root")?;
+    let mounts = Mounts::read(rt.alloc(), b"\troot\tplain\nwork\tw\tplain\n", &root)?;
+    for (text, rule, template) in [
+        ("/", "root/.gpg-id", "root/.pass-template"),
+        ("a/b", "root/a/b/.gpg-id", "root/a/b/.pass-template"),
+        ("work", "w/.gpg-id", "w/.pass-template"),
+        ("work/x", "w/x/.gpg-id", "w/x/.pass-template"),
+        ("workx", "root/workx/.gpg-id", "root/workx/.pass-template"),
+    ] {
+        let folder = Folder::read(rt.alloc(), text)?;
+        let path = folder_file(rt.alloc(), &mounts, &folder, ".gpg-id")?;
+        assert_eq!(rt; path.text(), rule, "{text}");
+        let path = folder_file(rt.alloc(), &mounts, &folder, ".pass-template")?;
+        assert_eq!(rt; path.text(), template, "{text}");
     }
     Ok(())
 }
@@ -201,7 +263,7 @@ fn files_that_refuse_the_opening(rt: HostRuntime) -> Result<(), Fail> {
 
 #[test]
 fn a_failing_call_refuses_the_opening(rt: HostRuntime) -> Result<(), Fail> {
-    for call in [2u64, 3, 4, 5, 6] {
+    for call in [2u64, 3, 4, 5, 6, 7] {
         let mut disk = disk(&rt, TREE)?;
         disk.fail_at(vec![in rt.alloc(); call]?);
         assert_eq!(rt; fault(&rt, disk)?.as_str(), "Disk", "{call}");
