@@ -2,6 +2,7 @@ pub mod Words
 pub mod Ls
 pub mod Find
 pub mod Mounts
+pub mod Recipients
 pub mod Plan
 pub mod Requests
 pub mod Replies

@@ -1,4 +1,4 @@
-//! The commands that print what a store has: `ls`, `find` and `mounts`.
+//! The commands that print what a store has: `ls`, `find`, `mounts` and `recipients`.
 
 ghost use Rattle.std.specs.Prelude.{◌≡◌, ◌||◌, IsFalse, IfOk, All, List, string_bytes, option_map, bytes_eq};
 ghost use Rattle.gopass_base.specs.Text.{Text};
@@ -11,11 +11,12 @@ ghost use Rattle.gopass_cli.specs.Listings.{Lists};
 ghost use Rattle.gopass_cli.specs.Ls.{is_alias, listed, list_folder, list_word, plan_ls};
 ghost use Rattle.gopass_cli.specs.Find.{hits, plan_find};
 ghost use Rattle.gopass_cli.specs.Mounts.{plan_mounts};
+ghost use Rattle.gopass_cli.specs.Recipients.{plan_recipients};
 
 use crate::reply::{Reply, grant, no_memory, refuse_missing, refuse_name};
 use disk_model::Disk;
 use gopass_base::NoMemory;
-use listing_texts::{mounts_text, on_lines, tree_of};
+use listing_texts::{mounts_text, on_lines, recipients_text, tree_of};
 use mount_table::{Folder, Mounts, Name, NameFault};
 use std::alloc::Global;
 use store_core::Store;
@@ -155,4 +156,13 @@ pub(crate) fn mounts<D: Disk>(alloc: Global, store: &Store<D>) -> Reply
     ensures own { IsOwn result.status }
 {
     print_text(alloc, mounts_text(alloc, store.mounts()))
+}
+
+/// `recipients`: the folders that have a rule, each with its ids.
+pub(crate) fn recipients<D: Disk>(alloc: Global, store: &Store<D>) -> Reply
+    requires free { IsFalse store.now.vault.stuck }
+    ensures lists { Lists store.now (λ state. (plan_recipients state).said) (said_in result) }
+    ensures own { IsOwn result.status }
+{
+    print_text(alloc, recipients_text(alloc, store.rules()))
 }

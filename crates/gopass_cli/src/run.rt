@@ -23,11 +23,11 @@ pub struct Ended<D> {
 /// Does what the words ask for in the store whose root directory is `root`, and writes the answer to
 /// `out` and `err`.
 ///
-/// The words are `show NAME`, `ls [--flat] [FOLDER]`, `find TEXT` or `mounts` as yet. The status is 0
+/// The words are `show NAME`, `ls [--flat] [FOLDER]`, `find TEXT`, `mounts` or `recipients` as yet. The status is 0
 /// where the command is done; 1 where `find` has no hit; 2 for bad words or a bad name, 3 for a secret
-/// or folder that is not there, 6 where a journal or a pending file is there or the mounts file does
-/// not read, 8 where the file is not sealed or no key is held, 10 where the store has too many files
-/// or secrets, 11 where the tool failed, 12 where the disk failed, 14 for want of memory and 16 where
+/// or folder that is not there, 6 where a journal or a pending file is there or the mounts file or a
+/// rule file does not read, 8 where the file is not sealed or no key is held, 10 where the store has too many files,
+/// rules or secrets, 11 where the tool failed, 12 where the disk failed, 14 for want of memory and 16 where
 /// a sink failed.
 ///
 /// There are 1 to 16 tools, and where they tell their rings these are equal. They stay in their

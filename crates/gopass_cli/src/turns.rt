@@ -12,7 +12,7 @@ ghost use Rattle.gopass_cli.specs.Plan.{most_calls, plan_of};
 ghost use Rattle.gopass_cli.specs.Replies.{said_in};
 ghost use Rattle.gopass_cli.specs.Requests.{takes_body};
 
-use crate::listing::{find, ls, mounts};
+use crate::listing::{find, ls, mounts, recipients};
 use crate::reply::{Reply, grant, no_memory, refuse, refuse_name};
 use cipher_port::Cipher;
 use command_words::Command;
@@ -105,5 +105,6 @@ pub fn turn<D: Disk + Send, C: Cipher + Send>(
         Command::Ls { folder, flat } => ls(alloc, store, folder, *flat),
         Command::Find { text } => find(alloc, store, text),
         Command::Mounts => mounts(alloc, store),
+        Command::Recipients => recipients(alloc, store),
     }
 }

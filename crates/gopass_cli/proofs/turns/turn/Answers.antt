@@ -11,6 +11,7 @@ use Rattle.gopass_cli.specs.Plan.{plan_of}
 use Rattle.gopass_cli.specs.Ls.{plan_ls}
 use Rattle.gopass_cli.specs.Find.{plan_find}
 use Rattle.gopass_cli.specs.Mounts.{plan_mounts}
+use Rattle.gopass_cli.specs.Recipients.{plan_recipients}
 use Rattle.gopass_cli.specs.Replies.{said_in}
 use Rattle.gopass_cli.proofs.TurnLemmas.{only_answers, ls_answers}
 use Rattle.gopass_cli.proofs.turns.turn.Goals as goal
@@ -49,3 +50,11 @@ returns-in-Mounts-clause-planned g c told tells ring have start s =
     let now = moment_of store (all_tools g.C.Cipher.meaning c.args.tools.now.items) in
     subst (λ (command : Command). Performs opens store.vault.root (plan_of ring command start) start now now (said_in c.mounts.result)) (sym c.in-Mounts.is)
     (only_answers opens store.vault.root (λ events. plan_mounts start) start now s (plan_mounts start).said (said_in c.mounts.result) refl (c.mounts.ensures.lists told opens start s))
+
+pub returns-in-Recipients-clause-planned : goal.returns-in-Recipients-clause-planned
+returns-in-Recipients-clause-planned g c told tells ring have start s =
+    let store = c.args.store.now in
+    let opens = g.C.Cipher.meaning.opens in
+    let now = moment_of store (all_tools g.C.Cipher.meaning c.args.tools.now.items) in
+    subst (λ (command : Command). Performs opens store.vault.root (plan_of ring command start) start now now (said_in c.recipients.result)) (sym c.in-Recipients.is)
+    (only_answers opens store.vault.root (λ events. plan_recipients start) start now s (plan_recipients start).said (said_in c.recipients.result) refl (c.recipients.ensures.lists told opens start s))
