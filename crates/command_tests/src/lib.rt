@@ -6,6 +6,8 @@ mod listing_tests;
 #[cfg(test)]
 mod opening_tests;
 #[cfg(test)]
+mod recipients_tests;
+#[cfg(test)]
 mod show_tests;
 #[cfg(test)]
 mod store;

@@ -197,8 +197,9 @@ fn faults_of_the_outside_are_told(rt: HostRuntime) -> Result<(), Fail> {
         &tool,
         &[(show, 11, "", "gopass: web/site: the tool failed\n")],
     )?;
-    // The lock, the journal, the mounts file, the pending file, the listing and the secret's file.
-    for call in 0..6u64 {
+    // The lock, the journal, the mounts file, the pending file, the listing, a rule file and the
+    // secret's file.
+    for call in 0..7u64 {
         let calls = [call];
         let disk = Store {
             disk_fails: &calls,

@@ -1,0 +1,134 @@
+//! The rules of a store, and `recipients`.
+
+use crate::store::{Store, check_rows, run_on};
+use disk_model::MemDisk;
+use mount_table::FilePath;
+use std::test::Fail;
+
+const RULES: Store = Store {
+    files: &[
+        ("root/.gpg-id", b"bob # office\n\nalice\nbob\n"),
+        ("root/a/b/.gpg-id", b"bob\n"),
+        ("root/a.gpg", b"not looked at"),
+    ],
+    held: "alice",
+    disk_fails: &[],
+    tool_fails: &[],
+    out_fails: &[],
+};
+
+#[test]
+fn recipients_prints_each_rule(rt: HostRuntime) -> Result<(), Fail> {
+    check_rows(
+        &rt,
+        &RULES,
+        &[
+            (&["recipients"], 0, "/\n  alice\n  bob\na/b\n  bob\n", ""),
+            (&["recipients", "x"], 2, "", "gopass: bad words at 1\n"),
+        ],
+    )
+}
+
+#[test]
+fn a_store_without_rules_prints_none(rt: HostRuntime) -> Result<(), Fail> {
+    let store = Store {
+        files: &[],
+        ..RULES
+    };
+    check_rows(&rt, &store, &[(&["recipients"], 0, "", "")])
+}
+
+#[test]
+fn rules_of_mounts_and_shadowed_ones(rt: HostRuntime) -> Result<(), Fail> {
+    let store = Store {
+        files: &[
+            (
+                "root/.gopass-mounts",
+                b"\troot\tplain\nwork\tw\tplain\nwork/db\td\tplain\n",
+            ),
+            ("root/.gpg-id", b"alice\n"),
+            ("root/work/.gpg-id", b"not read, since it is shadowed\n"),
+            ("w/.gpg-id", b"bob\n"),
+            ("w/db/.gpg-id", b"not read, since it is shadowed\n"),
+            ("w/z/.gpg-id", b"alice\nbob\n"),
+            ("d/x/.gpg-id", b"carol"),
+        ],
+        ..RULES
+    };
+    check_rows(
+        &rt,
+        &store,
+        &[(
+            &["recipients"],
+            0,
+            "/\n  alice\nwork\n  bob\nwork/db/x\n  carol\nwork/z\n  alice\n  bob\n",
+            "",
+        )],
+    )
+}
+
+#[test]
+fn a_rule_file_that_does_not_read(rt: HostRuntime) -> Result<(), Fail> {
+    let long = "\n".repeat(rt.alloc(), 65_537)?;
+    let carriage: &[u8] = b"alice\nbob\r\n";
+    let none: &[u8] = b"# none\n";
+    let dash: &[u8] = b"-x\n";
+    for (bytes, err) in [
+        (carriage, "gopass: root/.gpg-id: line 2 is bad\n"),
+        (none, "gopass: root/.gpg-id: line 0 is bad\n"),
+        (dash, "gopass: root/.gpg-id: line 1 is bad\n"),
+        (long.as_bytes(), "gopass: root/.gpg-id: line 0 is bad\n"),
+    ] {
+        let store = Store {
+            files: &[("root/.gpg-id", bytes)],
+            ..RULES
+        };
+        check_rows(
+            &rt,
+            &store,
+            &[
+                (&["recipients"], 6, "", err),
+                (&["ls"], 6, "", err),
+                (&["mounts"], 6, "", err),
+                (&["find", "x"], 6, "", err),
+                (&["show", "x"], 6, "", err),
+            ],
+        )?;
+    }
+    Ok(())
+}
+
+/// A disk with so many folders that have a rule.
+fn ruled(rt: &HostRuntime, count: usize) -> Result<MemDisk, Fail> {
+    let mut files = Vec::new(rt.alloc());
+    for number in 1_000..count.saturating_add(1_000) {
+        let path = format!(in rt.alloc(); "root/{number}/.gpg-id")?;
+        files.push((
+            FilePath::read(rt.alloc(), &path)?,
+            b"alice\n".to_vec(rt.alloc())?,
+        ))?;
+    }
+    Ok(MemDisk::new(rt.alloc(), files)?)
+}
+
+#[test]
+fn a_store_with_512_rules_is_opened(rt: HostRuntime) -> Result<(), Fail> {
+    let left = run_on(rt.alloc(), &RULES, ruled(&rt, 512)?, &["recipients"])?;
+    assert_eq!(rt; left.status, 0);
+    // A folder of four bytes and an id of seven, each with its line feed.
+    assert_eq!(rt; left.out.len(), 512 * 13);
+    assert_eq!(rt; left.err.len(), 0);
+    Ok(())
+}
+
+#[test]
+fn a_store_with_513_rules_is_not_opened(rt: HostRuntime) -> Result<(), Fail> {
+    let left = run_on(rt.alloc(), &RULES, ruled(&rt, 513)?, &["recipients"])?;
+    assert_eq!(rt; left.status, 10);
+    assert_eq!(rt; left.out.len(), 0);
+    assert_eq!(rt;
+        left.err.as_slice(),
+        b"gopass: limit 512 rules\n".as_slice()
+    );
+    Ok(())
+}
