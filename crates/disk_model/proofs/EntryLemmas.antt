@@ -7,6 +7,7 @@ use Rattle.std.specs.Cmp.{tied_itself}
 use Rattle.std.specs.Cmp.Lexicographic.{slice_cmp, nat_list_cmp_total}
 use Rattle.std.specs.FinMap.Entries.{by_order, find-put, is_sorted-put}
 use Rattle.std.specs.FinMap.{nat_cmp-IsAntisymmetric, slice_cmp-IsAntisymmetric}
+use Rattle.std.proofs.lemmas.List.{map_push, take_more}
 use Rattle.gopass_base.specs.Text.{Text}
 use Rattle.std.specs.Ordering.{is_eq, eq_by_cmp}
 use Rattle.disk_model.specs.Entries.{Entries, entry_of, entries_of, files_of, with_entry, is_rising}
@@ -94,6 +95,13 @@ pub files_more : {A : Type 0} (path : Text) (bytes : Vec ℕ A) (grown sorted : 
     → ((q : Text) → files_of sorted q ≡ files_of (entries_of done) q) → (q : Text) → files_of grown q ≡ files_of (entries_of ((path, bytes) ∷ done)) q
 files_more path bytes grown sorted done grew same q =
     ap (λ es. files_of es q) grew ∙ find-put (slice_cmp nat_cmp) nat_list_cmp_total q path bytes.items sorted ∙ ap (cond (eq_by_cmp (slice_cmp nat_cmp) q path) (Some bytes.items)) (same q)
+
+-- one copy more
+pub copied_more : {A B : Type 0} (files : List (Text × Vec ℕ A)) (copies new : List (Text × Vec ℕ B)) (i : ℕ) (file : Text × Vec ℕ A) (copy : Text × Vec ℕ B) → i < length files → file ≡ get_or files i file
+    → entry_of copy ≡ entry_of file → entries_of copies ≡ entries_of (take i files) → new ≡ copies ++ copy ∷ [] → entries_of new ≡ entries_of (take (i + 1) files)
+copied_more files copies new i file copy lt is same so_far grew =
+    ap entries_of grew ∙ map_push entry_of copies copy ∙ (λ k. so_far k ++ same k ∷ [])
+    ∙ sym (ap entries_of (take_more files i file lt ∙ ap (λ f. take i files ++ f ∷ []) (sym is)) ∙ map_push entry_of (take i files) file)
 
 test_of : (b : Bool) → b ≡ true → T b
 test_of b e = subst T (sym e) tt

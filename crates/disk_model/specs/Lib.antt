@@ -1,5 +1,9 @@
 pub mod Files
 pub mod Disk
+pub mod Runs
 pub mod Answers
 pub mod Entries
 pub mod Listing
+pub mod Events
+pub mod Memory
+pub mod Crashes

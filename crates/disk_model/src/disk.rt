@@ -1,8 +1,9 @@
 //! What a disk does.
 
-ghost use Rattle.std.specs.Prelude.{◌≡◌, ℕ, IfOk, Err};
+ghost use Rattle.std.specs.Prelude.{◌≡◌, ℕ, IfOk, OnOk, OnErr, Err, None, Some};
 ghost use Rattle.gopass_base.specs.Faults.{HasCause};
-ghost use Rattle.disk_model.specs.Disk.{View, DiskMeaning, Rests};
+ghost use Rattle.disk_model.specs.Files.{put, moved, Writes, Moves, Drops};
+ghost use Rattle.disk_model.specs.Disk.{View, DiskMeaning, IsSound, Rests, Steps, IsMade, Syncs, Only, Stay};
 ghost use Rattle.disk_model.specs.Answers.{Reads, IsWithin};
 ghost use Rattle.disk_model.specs.Listing.{Lists, IsShort};
 ghost use Rattle.disk_model.specs.declared.disk.DiskFault.TheVariants.{Failed as failed, NoMemory as no_memory};
@@ -87,4 +88,34 @@ pub trait Disk {
         ensures got { IfOk result (λ got. meaning.tells → Reads ((meaning.view self.old).files path.now) max got) }
         ensures bound { IfOk result (IsWithin max) }
         ensures cause { HasCause (meaning.faults self.old) (meaning.faults self.new) (result ≡ Err DiskFault.Failed) };
+
+    /// Puts the bytes under the path, over a file that is there. A crash before the next sync may leave
+    /// any bytes. Where it fails, the files are one of the images: the step may be made or not.
+    fn write(&mut self, path: &FilePath, bytes: &[u8]) -> Result<(), DiskFault>
+        ensures steps { meaning.tells → Steps (Writes path.now) (meaning.view self.old) (meaning.view self.new) }
+        ensures made { OnOk result (meaning.tells → IsMade (Writes path.now) (put (meaning.view self.old).files path.now (Some bytes.now)) (meaning.view self.old) (meaning.view self.new)) }
+        ensures cause { HasCause (meaning.faults self.old) (meaning.faults self.new) (result ≡ Err DiskFault.Failed) };
+
+    /// Moves the file under `from` to `to`, whatever stood there. Where there is none nothing moves.
+    fn rename(&mut self, from: &FilePath, to: &FilePath) -> Result<(), DiskFault>
+        ensures steps { meaning.tells → Steps (Moves from.now to.now) (meaning.view self.old) (meaning.view self.new) }
+        ensures made { OnOk result (meaning.tells → IsMade (Moves from.now to.now) (moved from.now to.now (meaning.view self.old).files) (meaning.view self.old) (meaning.view self.new)) }
+        ensures cause { HasCause (meaning.faults self.old) (meaning.faults self.new) (result ≡ Err DiskFault.Failed) };
+
+    /// Takes the file away. That there is none is no fault.
+    fn remove(&mut self, path: &FilePath) -> Result<(), DiskFault>
+        ensures steps { meaning.tells → Steps (Drops path.now) (meaning.view self.old) (meaning.view self.new) }
+        ensures made { OnOk result (meaning.tells → IsMade (Drops path.now) (put (meaning.view self.old).files path.now None) (meaning.view self.old) (meaning.view self.new)) }
+        ensures cause { HasCause (meaning.faults self.old) (meaning.faults self.new) (result ≡ Err DiskFault.Failed) };
+
+    /// Makes all steps so far outlast a crash: from then on the files are the only image. Where it
+    /// fails, the images stay.
+    fn sync(&mut self) -> Result<(), DiskFault>
+        ensures syncs { meaning.tells → Syncs (meaning.view self.old) (meaning.view self.new) }
+        ensures only { OnOk result (meaning.tells → Only (meaning.view self.old).files (meaning.view self.new)) }
+        ensures stay { OnErr result (meaning.tells → Stay (meaning.view self.old) (meaning.view self.new)) }
+        ensures cause { HasCause (meaning.faults self.old) (meaning.faults self.new) (result ≡ Err DiskFault.Failed) };
+
+    /// The files are at every moment one of the images.
+    ghost sound: { (disk : Self) → meaning.tells → IsSound (meaning.view disk) };
 }

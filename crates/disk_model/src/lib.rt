@@ -1,11 +1,16 @@
 //! The disk as the store sees it, and one in memory.
 #![tactic(auto)]
 
+mod crash;
 mod disk;
 mod entries;
+mod event;
 mod listing;
 mod mem_disk;
+#[cfg(test)]
+mod tests;
 
+pub use crash::Pick;
 pub use disk::{Disk, DiskFault, Got, Listed};
 pub use gopass_base::NoMemory;
 pub use listing::{lies_in, rest_in};
