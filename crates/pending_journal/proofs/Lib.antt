@@ -1,1 +1,13 @@
 pub mod ListLemmas
+pub mod ServiceLemmas
+pub mod PlanLemmas
+pub mod RedoLemmas
+pub mod ChangeLemmas
+pub mod TurnLemmas
+pub mod CommitLemmas
+pub mod RecoverLemmas
+pub mod LengthLemmas
+pub mod StageLemmas
+pub mod BuildLemmas
+pub mod ReadLemmas
+pub mod MendLemmas

@@ -12,14 +12,14 @@ use Rattle.disk_model.specs.declared.disk.Listed.TheVariants as listed
 use Rattle.pending_journal.specs.Listed.{IsAtMost}
 use Rattle.pending_journal.specs.Service.{is_service, without_service, others}
 
-first_or : (x : Text) (xs : List Text) (q : Text) → Contains (x ∷ xs) q → (x ≡ q) ⊎ Contains xs q
+pub first_or : (x : Text) (xs : List Text) (q : Text) → Contains (x ∷ xs) q → (x ≡ q) ⊎ Contains xs q
 first_or x xs q (zero, lt, is) = inl is
 first_or x xs q (suc k, lt, is) = inr (k, omega arith, is)
 
-later : (x : Text) (xs : List Text) (q : Text) → Contains xs q → Contains (x ∷ xs) q
+pub later : (x : Text) (xs : List Text) (q : Text) → Contains xs q → Contains (x ∷ xs) q
 later x xs q (k, lt, is) = (suc k, omega arith, is)
 
-here : (x : Text) (xs : List Text) → Contains (x ∷ xs) x
+pub here : (x : Text) (xs : List Text) → Contains (x ∷ xs) x
 here x xs = (0, omega arith, refl)
 
 kept_has : (p : Text → Bool) (xs : List Text) (q : Text) → Contains (filter p xs) q → (p q ≡ true) × Contains xs q

@@ -1,3 +1,13 @@
 pub mod Service
+pub mod Journal
+pub mod Redo
+pub mod Built
+pub mod Change
+pub mod Carrying
+pub mod Recovery
+pub mod Faults
+pub mod Own
+pub mod Reading
 pub mod Opened
 pub mod Listed
+pub mod Steps

@@ -1,8 +1,20 @@
 -- The files that a vault keeps for itself in the root directory.
 use Rattle.std.specs.Prelude.{Bool, false, not, ◌||◌, bytes_eq, codes, filter, List, Option, None, Some, if◌then◌else◌}
 use Rattle.gopass_base.specs.Text.{Text}
+use Rattle.mount_table.specs.Paths.{path_in, service_text}
+use Rattle.mount_table.specs.declared.service.ServiceFile.TheVariants.{Journal}
 use Rattle.disk_model.specs.Files.{Files}
 use Rattle.disk_model.specs.Listing.{lies_in, rest_in}
+
+-- the journal, its new text, and the directory of the stage
+abbrev pub journal_path : Text → Text
+journal_path root = path_in root (service_text Journal)
+
+abbrev pub fresh_path : Text → Text
+fresh_path root = path_in root (codes ".gopass-journal.new")
+
+abbrev pub stage_dir : Text → Text
+stage_dir root = path_in root (codes ".gopass-stage")
 
 -- what stands behind the root directory names the journal, its new text, or what lies in the stage
 abbrev pub is_service_rest : Option Text → Bool

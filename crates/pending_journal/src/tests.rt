@@ -1,40 +1,112 @@
-use super::*;
-use disk_model::{Disk, DiskFault, Got, Listed, MemDisk};
+//! What a vault shows of its files, and what the tests of commits and openings share.
+
+use crate::{Change, CommitFault, Vault, VaultOpened};
+use disk_model::{Disk, DiskFault, Got, Listed, MemDisk, Pick};
 use mount_table::{DirPath, FilePath};
+use std::alloc::Global;
 use std::test::*;
 
-fn path(rt: &HostRuntime, text: &str) -> Result<FilePath, Fail> {
-    Ok(FilePath::read(rt.alloc(), text)?)
+/// A path and the bytes of its file.
+pub(crate) type File<'a> = (&'a str, &'a str);
+
+pub(crate) const PICKS: [Pick; 4] = [Pick::None, Pick::All, Pick::Even, Pick::Torn];
+
+pub(crate) fn path(alloc: Global, text: &str) -> Result<FilePath, Fail> {
+    Ok(FilePath::read(alloc, text)?)
 }
 
-fn root(rt: &HostRuntime) -> Result<DirPath, Fail> {
-    Ok(DirPath::read(rt.alloc(), "root")?)
+fn root(alloc: Global) -> Result<DirPath, Fail> {
+    Ok(DirPath::read(alloc, "root")?)
 }
 
-fn disk(rt: &HostRuntime, paths: &[&str]) -> Result<MemDisk, Fail> {
-    let mut files = Vec::new(rt.alloc());
-    for text in paths {
-        files.push((path(rt, text)?, text.as_bytes().to_vec(rt.alloc())?))?;
+/// A disk with these files.
+pub(crate) fn disk(alloc: Global, files: &[File]) -> Result<MemDisk, Fail> {
+    let mut list = Vec::new(alloc);
+    for (text, bytes) in files {
+        list.push((path(alloc, text)?, bytes.as_bytes().to_vec(alloc)?))?;
     }
-    Ok(MemDisk::new(rt.alloc(), files)?)
+    Ok(MemDisk::new(alloc, list)?)
 }
 
-fn opened(rt: &HostRuntime, disk: MemDisk) -> Result<Vault<MemDisk>, Fail> {
-    match Vault::open(rt.alloc(), disk, &root(rt)?) {
+/// Each path with its bytes, in their order.
+pub(crate) fn shown(alloc: Global, disk: &MemDisk) -> Result<String, Fail> {
+    let mut texts = String::new(alloc);
+    for (path, bytes) in disk.files() {
+        texts.push_str(path.text())?;
+        texts.push('=')?;
+        texts.push_str(str::from_utf8(bytes).unwrap_or("?"))?;
+        texts.push(' ')?;
+    }
+    Ok(texts)
+}
+
+/// What a crash leaves.
+pub(crate) fn crashed(
+    alloc: Global,
+    disk: &MemDisk,
+    moment: u64,
+    pick: Pick,
+) -> Result<MemDisk, Fail> {
+    if moment > disk.steps() {
+        return Err(Fail::from("no such moment"));
+    }
+    Ok(disk.crash(moment, pick)?)
+}
+
+/// The opening of the vault below `root`.
+pub(crate) fn opening(alloc: Global, disk: MemDisk) -> Result<VaultOpened<MemDisk>, Fail> {
+    Ok(Vault::open(alloc, disk, &root(alloc)?))
+}
+
+pub(crate) fn opened(alloc: Global, disk: MemDisk) -> Result<Vault<MemDisk>, Fail> {
+    match opening(alloc, disk)? {
         VaultOpened::Ready(vault) => Ok(vault),
         VaultOpened::Refused(fault, _) => Err(Fail::from(fault)),
     }
 }
 
+/// Whether the disk has these files and no others.
+pub(crate) fn has(alloc: Global, disk: &MemDisk, files: &str) -> Result<bool, Fail> {
+    Ok(shown(alloc, disk)?.as_str() == files)
+}
+
+/// Whether an opening leaves these files and no others.
+pub(crate) fn opens_with(alloc: Global, disk: MemDisk, files: &str) -> Result<bool, Fail> {
+    has(alloc, &opened(alloc, disk)?.into_disk(), files)
+}
+
+/// The change that puts these files and drops these paths.
+pub(crate) fn change(alloc: Global, puts: &[File], drops: &[&str]) -> Result<Change, Fail> {
+    let mut change = Change::new(alloc, &root(alloc)?)?;
+    for (text, bytes) in puts {
+        change.put(path(alloc, text)?, bytes.as_bytes().to_vec(alloc)?)?;
+    }
+    for text in drops {
+        change.erase(path(alloc, text)?)?;
+    }
+    Ok(change)
+}
+
+/// What committing the change answers.
+pub(crate) fn committed(
+    vault: &mut Vault<MemDisk>,
+    change: &Change,
+) -> Result<Result<(), CommitFault>, Fail> {
+    if vault.root().text() != change.root.text() {
+        return Err(Fail::from("another root"));
+    }
+    Ok(vault.commit(change))
+}
+
 /// The paths that the vault lists, each with a line feed behind it, or `many`.
 fn listed<D: Disk>(
-    rt: &HostRuntime,
+    alloc: Global,
     vault: &mut Vault<D>,
     dir: &str,
     max: usize,
 ) -> Result<String, Fail> {
-    let mut texts = String::new(rt.alloc());
-    match vault.list(&path(rt, dir)?, max)? {
+    let mut texts = String::new(alloc);
+    match vault.list(&path(alloc, dir)?, max)? {
         Listed::Many => texts.push_str("many")?,
         Listed::All(paths) => {
             for path in &paths {
@@ -46,81 +118,83 @@ fn listed<D: Disk>(
     Ok(texts)
 }
 
-const LEFT: [&str; 6] = [
-    "root/.gopass-journal.new",
-    "root/.gopass-stage/000000",
-    "root/.gopass-stage/000001",
-    "root/a.gpg",
-    "root/b.gpg",
-    "root/.gopass-stages",
-];
+/// A vault that is stuck with two files in its stage and the new text of a journal.
+fn stuck(alloc: Global) -> Result<Vault<MemDisk>, Fail> {
+    let mut disk = disk(
+        alloc,
+        &[("root/.gopass-stages", "plain"), ("root/a.gpg", "a")],
+    )?;
+    disk.fail_at(vec![in alloc; 9u64]?);
+    let mut vault = opened(alloc, disk)?;
+    let change = change(alloc, &[("root/a.gpg", "new"), ("root/c.gpg", "c")], &[])?;
+    match committed(&mut vault, &change)? {
+        Err(CommitFault::Disk) => Ok(vault),
+        _ => Err(Fail::from("not stuck")),
+    }
+}
 
 #[test]
-fn a_vault_shows_all_files_but_its_own(rt: HostRuntime) -> Result<(), Fail> {
-    let mut vault = opened(&rt, disk(&rt, &LEFT)?)?;
-    assert_eq!(rt; vault.root().text(), "root");
-    assert_eq!(rt; vault.commits(), 0);
-    assert!(rt; !vault.is_stuck());
+fn a_vault_lists_all_files_but_its_own(rt: HostRuntime) -> Result<(), Fail> {
+    let alloc = rt.alloc();
+    let mut vault = stuck(alloc)?;
     for (dir, max, paths) in [
-        ("root", 6, "root/.gopass-stages\nroot/a.gpg\nroot/b.gpg\n"),
-        ("root", 3, "root/.gopass-stages\nroot/a.gpg\nroot/b.gpg\n"),
-        ("root", 2, "many"),
+        ("root", 5, "root/.gopass-stages\nroot/a.gpg\n"),
+        ("root", 2, "root/.gopass-stages\nroot/a.gpg\n"),
+        ("root", 1, "many"),
         ("root/.gopass-stage", 0, ""),
     ] {
-        assert_eq!(rt;
-            listed(&rt, &mut vault, dir, max)?.as_str(),
-            paths,
-            "{dir} {max}"
-        );
+        let text = listed(alloc, &mut vault, dir, max)?;
+        assert!(rt; text.as_str() == paths, "{dir} {max}");
     }
-    for (text, is_there) in [
-        ("root/a.gpg", true),
-        ("root/.gopass-stages", true),
-        ("root/c.gpg", false),
-        ("root/.gopass-journal.new", false),
-        ("root/.gopass-stage/000000", false),
+    let disk = vault.into_disk();
+    assert!(rt; disk.files().len() == 5);
+    assert!(rt; disk.steps() == 17);
+    Ok(())
+}
+
+/// The length of the file that the vault shows under the path, where it has at most five bytes.
+fn length_of<D: Disk>(
+    alloc: Global,
+    vault: &mut Vault<D>,
+    text: &str,
+) -> Result<Option<usize>, Fail> {
+    match vault.read(&path(alloc, text)?, 5)? {
+        Got::Bytes(bytes) => Ok(Some(bytes.len())),
+        Got::Absent | Got::Long => Ok(None),
+    }
+}
+
+#[test]
+fn a_vault_reads_all_files_but_its_own(rt: HostRuntime) -> Result<(), Fail> {
+    let alloc = rt.alloc();
+    let mut vault = stuck(alloc)?;
+    for (text, length) in [
+        ("root/a.gpg", Some(1)),
+        ("root/.gopass-stages", Some(5)),
+        ("root/c.gpg", None),
+        ("root/.gopass-journal", None),
+        ("root/.gopass-journal.new", None),
+        ("root/.gopass-stage/000000", None),
+        ("root/.gopass-stage/000001", None),
     ] {
-        let is_read = matches!(vault.read(&path(&rt, text)?, 40), Ok(Got::Bytes(_)));
-        assert_eq!(rt; is_read, is_there, "{text}");
+        assert!(rt; length_of(alloc, &mut vault, text)? == length, "{text}");
     }
-    assert_eq!(rt; vault.into_disk().files().len(), 6);
+    assert!(rt; matches!(vault.read(&path(alloc, "root/a.gpg")?, 0), Ok(Got::Long)));
+    assert!(rt; vault.into_disk().steps() == 14);
     Ok(())
 }
 
 #[test]
-fn a_journal_refuses_the_opening(rt: HostRuntime) -> Result<(), Fail> {
-    let disk = disk(&rt, &["root/.gopass-journal", "root/a.gpg"])?;
-    match Vault::open(rt.alloc(), disk, &root(&rt)?) {
-        VaultOpened::Refused(fault, disk) => {
-            assert_eq!(rt; fault, VaultFault::BadJournal(1));
-            assert_eq!(rt; disk.files().len(), 2);
-            assert_eq!(rt; disk.steps(), 2);
-        }
-        VaultOpened::Ready(_) => assert!(rt; false),
-    }
-    Ok(())
-}
-
-#[test]
-fn a_failing_call_refuses_the_opening(rt: HostRuntime) -> Result<(), Fail> {
-    for call in [0u64, 1] {
-        let mut disk = disk(&rt, &["root/a.gpg"])?;
-        disk.fail_at(vec![in rt.alloc(); call]?);
-        match Vault::open(rt.alloc(), disk, &root(&rt)?) {
-            VaultOpened::Refused(fault, _) => assert_eq!(rt; fault, VaultFault::Disk),
-            VaultOpened::Ready(_) => assert!(rt; false),
-        }
-    }
-    Ok(())
-}
-
-#[test]
-fn a_failing_call_is_handed_on(rt: HostRuntime) -> Result<(), Fail> {
-    let mut disk = disk(&rt, &LEFT)?;
-    disk.fail_at(vec![in rt.alloc(); 2u64]?);
-    let mut vault = opened(&rt, disk)?;
-    let root = path(&rt, "root")?;
+fn a_failing_reading_is_handed_on(rt: HostRuntime) -> Result<(), Fail> {
+    let alloc = rt.alloc();
+    let mut disk = disk(alloc, &[("root/a.gpg", "a")])?;
+    disk.fail_at(vec![in alloc; 6u64, 8]?);
+    let mut vault = opened(alloc, disk)?;
+    let root = path(alloc, "root")?;
     assert!(rt; matches!(vault.list(&root, 9), Err(DiskFault::Failed)));
     assert!(rt; vault.list(&root, 9).is_ok());
+    assert!(rt; matches!(vault.read(&root, 9), Err(DiskFault::Failed)));
+    assert!(rt; matches!(vault.read(&root, 9), Ok(Got::Absent)));
+    assert!(rt; !vault.is_stuck());
     Ok(())
 }

@@ -1,108 +1,40 @@
 //! A disk whose changes are whole.
 
-ghost use Rattle.std.specs.Prelude.{◌≡◌, ◌≢◌, ◌≤◌, ℕ, None, IfOk, IfErr, OnOk, Err, length};
-ghost use Rattle.gopass_base.specs.Faults.{HasCause};
-ghost use Rattle.disk_model.specs.Disk.{Rests};
-ghost use Rattle.disk_model.specs.Answers.{Reads, IsWithin};
-ghost use Rattle.disk_model.specs.Listing.{Lists, IsShort};
-ghost use Rattle.pending_journal.specs.Service.{others, without_service};
-ghost use Rattle.pending_journal.specs.Listed.{IsAtMost};
-ghost use Rattle.pending_journal.specs.declared.vault.VaultFault.TheVariants.{NoMemory as no_memory};
-ghost use Rattle.pending_journal.specs.Opened.{IfReady, IfRefused, IsFresh, IsKept, OnDisk, RefusesVault, journal_path};
+ghost use Rattle.std.specs.Prelude.{◌≡◌, ◌≤◌, ◌↔◌, ℕ, is_err, IsTrue, IsFalse, OnOk, OnErr, Err};
+ghost use Rattle.gopass_base.specs.Faults.{HasCause, counted};
+ghost use Rattle.disk_model.specs.Disk.{Rests, Stands};
+ghost use Rattle.disk_model.specs.Runs.{Leaves};
+ghost use Rattle.pending_journal.specs.Redo.{IsAtRest, IsBeforeOrAfter};
+ghost use Rattle.pending_journal.specs.Change.{changed};
 
-use crate::service::is_service;
-use disk_model::{Disk, DiskFault, Got, Listed};
-use gopass_base::NoMemory as NoRoom;
-use mount_table::{DirPath, FilePath, ServiceFile};
-use std::alloc::Global;
+use crate::change::Change;
+use crate::commit::carry_out;
+use disk_model::{Disk, DiskFault};
+use mount_table::DirPath;
 
-/// Why a vault is not opened.
+/// Why a change was not committed.
 #[derive(Clone, Copy, Debug, PartialEq, Eq)]
-pub enum VaultFault {
-    /// The disk failed.
+pub enum CommitFault {
+    /// The disk failed. The change is made whole or not at all: open the disk again.
     Disk,
-    /// The first line of the journal that does not read, from 1.
-    BadJournal(usize),
+    /// An earlier commit failed.
+    Stuck,
+    /// As `Disk`, for want of memory.
     NoMemory,
 }
 
-impl From<NoRoom> for VaultFault {
-    ghost from_gives = { λ _ e. e ≡ no_memory };
-
-    fn from(_: NoRoom) -> Self {
-        VaultFault::NoMemory
-    }
-}
-
-impl From<DiskFault> for VaultFault {
-    ghost use Rattle.pending_journal.specs.Opened.{fault_of_disk};
-    ghost use Rattle.std.specs.Prelude.{◌≡◌};
-
-    ghost from_gives = { λ fault e. e ≡ fault_of_disk fault };
-
-    fn from(fault: DiskFault) -> Self {
-        match fault {
-            DiskFault::Failed => VaultFault::Disk,
-            DiskFault::NoMemory => VaultFault::NoMemory,
-        }
-    }
-}
-
-/// What opening a vault gives: the vault, or the disk again.
+/// The files of a store, below a root directory of a disk. Where no commit failed they are the only
+/// image, and none of the vault's own files is there.
 #[derive(Drop)]
-pub enum VaultOpened<D> {
-    Ready(Vault<D>),
-    Refused(VaultFault, D),
-}
-
-/// The files of a store, below a root directory of a disk.
-#[derive(Drop)]
-pub struct Vault<D> {
-    disk: D,
-    root: DirPath,
-    commits: u64,
-    stuck: bool,
-}
-
-/// Asks for the lock, and gives the root directory once more. Refuses where a journal is there,
-/// since what it says is not read yet.
-fn prepare<D: Disk>(alloc: Global, root: &DirPath, disk: &mut D) -> Result<DirPath, VaultFault>
-    ensures rests { D.meaning.tells → Rests (D.meaning.view disk.old) (D.meaning.view disk.new) }
-    ensures root { IfOk result (λ copy. copy ≡ root.now) }
-    ensures none { OnOk result (D.meaning.tells → (D.meaning.view disk.old).files (journal_path root.now) ≡ None) }
-    ensures refuses { IfErr result (λ fault. D.meaning.tells → RefusesVault root.now (D.meaning.view disk.old).files fault) }
-    ensures cause { HasCause (D.meaning.faults disk.old) (D.meaning.faults disk.new) (result ≡ Err VaultFault.Disk) }
-{
-    disk.hold()?;
-    let path = root.service_file(alloc, ServiceFile::Journal)?;
-    match disk.read(&path, 0)? {
-        Got::Absent => Ok(root.copy(alloc)?),
-        Got::Bytes(_) | Got::Long => Err(VaultFault::BadJournal(1)),
-    }
+pub struct Vault<D: Disk> {
+    pub(crate) disk: D,
+    pub(crate) root: DirPath,
+    pub(crate) commits: u64,
+    pub(crate) stuck: bool,
+    ghost at_rest: { IsFalse stuck → D.meaning.tells → IsAtRest root (D.meaning.view disk) },
 }
 
 impl<D: Disk> Vault<D> {
-    /// Asks for the lock of the disk and opens the store below `root`. It is refused where a journal
-    /// is there, at its line 1. Nothing is changed; where it is refused, the disk is handed back.
-    pub fn open(alloc: Global, disk: D, root: &DirPath) -> VaultOpened<D>
-        ensures rests { OnDisk result (λ after. D.meaning.tells → Rests (D.meaning.view disk) (D.meaning.view after)) }
-        ensures ready { IfReady result (λ vault. IsFresh root.now vault × (D.meaning.tells → (D.meaning.view disk).files (journal_path root.now) ≡ None)) }
-        ensures refused { IfRefused result (λ fault after. D.meaning.tells → RefusesVault root.now (D.meaning.view disk).files fault) }
-        ensures cause { IfRefused result (λ fault after. HasCause (D.meaning.faults disk) (D.meaning.faults after) (fault ≡ VaultFault.Disk)) }
-        ensures later { OnDisk result (λ after. D.meaning.faults disk ≤ D.meaning.faults after) }
-    {
-        let mut disk = disk;
-        match prepare(alloc, root, &mut disk) {
-            Ok(root) => VaultOpened::Ready(Vault {
-                disk,
-                root,
-                commits: 0,
-                stuck: false,
-            }),
-            Err(fault) => VaultOpened::Refused(fault, disk),
-        }
-    }
-
     /// The disk.
     pub fn into_disk(self) -> D
         ensures { result ≡ self.disk }
@@ -132,67 +64,37 @@ impl<D: Disk> Vault<D> {
         self.stuck
     }
 
-    /// The file under the path, where it has at most `max` bytes. The vault's own files are absent.
-    pub fn read(&mut self, path: &FilePath, max: usize) -> Result<Got, DiskFault>
-        ensures kept { IsKept self.old self.new }
-        ensures rests { D.meaning.tells → Rests (D.meaning.view self.old.disk) (D.meaning.view self.new.disk) }
-        ensures got { IfOk result (λ got. D.meaning.tells → Reads (without_service self.old.root (D.meaning.view self.old.disk).files path.now) max got) }
-        ensures bound { IfOk result (IsWithin max) }
-        ensures cause { HasCause (D.meaning.faults self.old.disk) (D.meaning.faults self.new.disk) (result ≡ Err DiskFault.Failed) }
+    /// Makes the change, which was built for the vault's root, whole or not at all. After `Disk` and
+    /// `NoMemory` the vault is stuck and answers `Stuck`: its disk is to be opened again.
+    pub fn commit(&mut self, change: &Change) -> Result<(), CommitFault>
+        requires { change.now.root ≡ self.old.root }
+        ensures made { OnOk result (D.meaning.tells → Stands (changed change.now (D.meaning.view self.old.disk).files) (D.meaning.view self.new.disk)) }
+        ensures any_moment { IsFalse self.old.stuck → D.meaning.tells
+            → Leaves (IsBeforeOrAfter self.old.root (D.meaning.view self.old.disk).files (changed change.now (D.meaning.view self.old.disk).files)) (D.meaning.view self.old.disk) (D.meaning.view self.new.disk) }
+        ensures stuck_stays { IsTrue self.old.stuck → self.new.disk ≡ self.old.disk }
+        ensures counted { OnOk result (self.new.commits ≡ counted self.old.commits) }
+        ensures uncounted { OnErr result (self.new.commits ≡ self.old.commits) }
+        ensures was_stuck { result ≡ Err CommitFault.Stuck ↔ IsTrue self.old.stuck }
+        ensures is_stuck { self.new.stuck ≡ is_err result }
+        ensures root { self.new.root ≡ self.old.root }
+        ensures cause { HasCause (D.meaning.faults self.old.disk) (D.meaning.faults self.new.disk) (result ≡ Err CommitFault.Disk) }
     {
-        if is_service(&self.root, path) {
-            return Ok(Got::Absent);
+        if self.stuck {
+            return Err(CommitFault::Stuck);
         }
-        self.disk.read(path, max)
-    }
-
-    /// The paths of all files below the directory but the vault's own, where there are at most
-    /// `max`, as `Disk::list` gives them.
-    pub fn list(&mut self, dir: &FilePath, max: usize) -> Result<Listed, DiskFault>
-        ensures kept { IsKept self.old self.new }
-        ensures rests { D.meaning.tells → Rests (D.meaning.view self.old.disk) (D.meaning.view self.new.disk) }
-        ensures listed { IfOk result (λ listed. D.meaning.tells → Lists (without_service self.old.root (D.meaning.view self.old.disk).files) dir.now max listed) }
-        ensures bound { IfOk result (IsShort max) }
-        ensures cause { HasCause (D.meaning.faults self.old.disk) (D.meaning.faults self.new.disk) (result ≡ Err DiskFault.Failed) }
-    {
-        match self.disk.list(dir, max)? {
-            Listed::All(paths) => Ok(Listed::All(others(&self.root, paths))),
-            Listed::Many => self.list_all(dir, max),
+        match carry_out(&mut self.disk, change) {
+            Ok(()) => {
+                self.commits = self.commits.saturating_add(1);
+                Ok(())
+            }
+            Err(DiskFault::Failed) => {
+                self.stuck = true;
+                Err(CommitFault::Disk)
+            }
+            Err(DiskFault::NoMemory) => {
+                self.stuck = true;
+                Err(CommitFault::NoMemory)
+            }
         }
-    }
-
-    /// The same by a listing of all files, where there are more than `max` with the vault's own.
-    fn list_all(&mut self, dir: &FilePath, max: usize) -> Result<Listed, DiskFault>
-        ensures kept { IsKept self.old self.new }
-        ensures rests { D.meaning.tells → Rests (D.meaning.view self.old.disk) (D.meaning.view self.new.disk) }
-        ensures listed { IfOk result (λ listed. D.meaning.tells → Lists (without_service self.old.root (D.meaning.view self.old.disk).files) dir.now max listed) }
-        ensures bound { IfOk result (IsShort max) }
-        ensures cause { HasCause (D.meaning.faults self.old.disk) (D.meaning.faults self.new.disk) (result ≡ Err DiskFault.Failed) }
-    {
-        match self.disk.list(dir, usize::MAX)? {
-            Listed::All(paths) => Ok(at_most(others(&self.root, paths), max)),
-            Listed::Many => Err(DiskFault::NoMemory),
-        }
-    }
-}
-
-/// Those of the paths that are not the vault's own.
-fn others(root: &DirPath, paths: Vec<FilePath>) -> Vec<FilePath>
-    ensures others { result.items ≡ others root.now paths.items }
-    ensures few { length result.items ≤ length paths.items }
-{
-    let mut paths = paths;
-    paths.retain(|path| !is_service(root, path));
-    paths
-}
-
-/// The paths, where there are at most `max`.
-fn at_most(paths: Vec<FilePath>, max: usize) -> Listed
-    ensures { IsAtMost paths.items max result }
-{
-    if paths.len() <= max {
-        Listed::All(paths)
-    } else {
-        Listed::Many
     }
 }

@@ -1,0 +1,13 @@
+use Rattle.std.proofs.Common.{◌≤◌}
+use Rattle.pending_journal.specs.Recovery.{IsSameBut, IsRemoved}
+use Rattle.disk_model.specs.Runs.{Runs}
+use Rattle.pending_journal.proofs.recover.remove_all.Given as goal
+
+abbrev pub invariant-loop-path : goal.invariant-loop-path
+invariant-loop-path g l =
+    let view = g.D.Disk.meaning.view in
+    record {
+      runs : g.D.Disk.meaning.tells → Runs (IsSameBut l.paths) (view l.fn.disk) (view l.disk);
+      removed : g.D.Disk.meaning.tells → IsRemoved l.paths l.path-index (view l.fn.disk).files (view l.disk).files;
+      faults : g.D.Disk.meaning.faults l.fn.disk ≤ g.D.Disk.meaning.faults l.disk;
+    }

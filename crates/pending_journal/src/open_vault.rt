@@ -1,0 +1,50 @@
+//! The opening of a vault.
+
+ghost use Rattle.std.specs.Prelude.{◌≡◌, ◌≤◌, IfOk, Err, Some};
+ghost use Rattle.gopass_base.specs.Faults.{HasCause};
+ghost use Rattle.disk_model.specs.Runs.{Leaves};
+ghost use Rattle.pending_journal.specs.Redo.{IsAtRest, StandsFor};
+ghost use Rattle.pending_journal.specs.Recovery.{IsOldOrAlike, IsUntouched};
+ghost use Rattle.pending_journal.specs.Faults.{RefusesVault};
+ghost use Rattle.pending_journal.specs.Opened.{IfReady, IfRefused, IsFresh, OnDisk};
+
+use crate::fault::VaultFault;
+use crate::recover::recover;
+use crate::vault::Vault;
+use disk_model::Disk;
+use mount_table::DirPath;
+use std::alloc::Global;
+
+/// What opening a vault gives: the vault, or the disk again.
+#[derive(Drop)]
+pub enum VaultOpened<D: Disk> {
+    Ready(Vault<D>),
+    Refused(VaultFault, D),
+}
+
+impl<D: Disk> Vault<D> {
+    /// Asks for the lock of the disk, syncs, makes the change of a journal that is there, takes the
+    /// vault's own files away and syncs. So what a crash left is made whole: the files are then those
+    /// for which the files at the start stand. It is refused where a journal is there that does not
+    /// read, and then no file is changed.
+    pub fn open(alloc: Global, disk: D, root: &DirPath) -> VaultOpened<D>
+        ensures any_moment { OnDisk result (λ after. D.meaning.tells → Leaves (IsOldOrAlike root.now (D.meaning.view disk)) (D.meaning.view disk) (D.meaning.view after)) }
+        ensures ready { IfReady result (λ vault. IsFresh root.now vault
+            × (D.meaning.tells → StandsFor root.now (D.meaning.view disk).files (D.meaning.view vault.disk).files × IsAtRest root.now (D.meaning.view vault.disk))) }
+        ensures refused { IfRefused result (λ fault after. D.meaning.tells → RefusesVault root.now (D.meaning.view disk).files fault) }
+        ensures untouched { IfRefused result (λ fault after. (n : _) → fault ≡ VaultFault.BadJournal n → D.meaning.tells → IsUntouched (D.meaning.view disk) (D.meaning.view after)) }
+        ensures cause { IfRefused result (λ fault after. HasCause (D.meaning.faults disk) (D.meaning.faults after) (fault ≡ VaultFault.Disk)) }
+        ensures later { OnDisk result (λ after. D.meaning.faults disk ≤ D.meaning.faults after) }
+    {
+        let mut disk = disk;
+        match recover(alloc, &mut disk, root) {
+            Ok(root) => VaultOpened::Ready(Vault {
+                disk,
+                root,
+                commits: 0,
+                stuck: false,
+            }),
+            Err(fault) => VaultOpened::Refused(fault, disk),
+        }
+    }
+}

@@ -1,0 +1,81 @@
+//! What a vault shows of its files.
+
+ghost use Rattle.std.specs.Prelude.{◌≡◌, ◌≤◌, IfOk, Err, length};
+ghost use Rattle.gopass_base.specs.Faults.{HasCause};
+ghost use Rattle.disk_model.specs.Disk.{Rests};
+ghost use Rattle.disk_model.specs.Answers.{Reads, IsWithin};
+ghost use Rattle.disk_model.specs.Listing.{Lists, IsShort};
+ghost use Rattle.pending_journal.specs.Service.{others, without_service};
+ghost use Rattle.pending_journal.specs.Listed.{IsAtMost};
+ghost use Rattle.pending_journal.specs.Opened.{IsKept};
+
+use crate::service::is_service;
+use crate::vault::Vault;
+use disk_model::{Disk, DiskFault, Got, Listed};
+use mount_table::{DirPath, FilePath};
+
+impl<D: Disk> Vault<D> {
+    /// The file under the path, where it has at most `max` bytes. The vault's own files are absent.
+    pub fn read(&mut self, path: &FilePath, max: usize) -> Result<Got, DiskFault>
+        ensures kept { IsKept self.old self.new }
+        ensures rests { D.meaning.tells → Rests (D.meaning.view self.old.disk) (D.meaning.view self.new.disk) }
+        ensures got { IfOk result (λ got. D.meaning.tells → Reads (without_service self.old.root (D.meaning.view self.old.disk).files path.now) max got) }
+        ensures bound { IfOk result (IsWithin max) }
+        ensures cause { HasCause (D.meaning.faults self.old.disk) (D.meaning.faults self.new.disk) (result ≡ Err DiskFault.Failed) }
+    {
+        if is_service(&self.root, path) {
+            return Ok(Got::Absent);
+        }
+        self.disk.read(path, max)
+    }
+
+    /// The paths of all files below the directory but the vault's own, where there are at most
+    /// `max`, as `Disk::list` gives them.
+    pub fn list(&mut self, dir: &FilePath, max: usize) -> Result<Listed, DiskFault>
+        ensures kept { IsKept self.old self.new }
+        ensures rests { D.meaning.tells → Rests (D.meaning.view self.old.disk) (D.meaning.view self.new.disk) }
+        ensures listed { IfOk result (λ listed. D.meaning.tells → Lists (without_service self.old.root (D.meaning.view self.old.disk).files) dir.now max listed) }
+        ensures bound { IfOk result (IsShort max) }
+        ensures cause { HasCause (D.meaning.faults self.old.disk) (D.meaning.faults self.new.disk) (result ≡ Err DiskFault.Failed) }
+    {
+        match self.disk.list(dir, max)? {
+            Listed::All(paths) => Ok(Listed::All(others(&self.root, paths))),
+            Listed::Many => self.list_all(dir, max),
+        }
+    }
+
+    /// The same by a listing of all files, where there are more than `max` with the vault's own.
+    fn list_all(&mut self, dir: &FilePath, max: usize) -> Result<Listed, DiskFault>
+        ensures kept { IsKept self.old self.new }
+        ensures rests { D.meaning.tells → Rests (D.meaning.view self.old.disk) (D.meaning.view self.new.disk) }
+        ensures listed { IfOk result (λ listed. D.meaning.tells → Lists (without_service self.old.root (D.meaning.view self.old.disk).files) dir.now max listed) }
+        ensures bound { IfOk result (IsShort max) }
+        ensures cause { HasCause (D.meaning.faults self.old.disk) (D.meaning.faults self.new.disk) (result ≡ Err DiskFault.Failed) }
+    {
+        match self.disk.list(dir, usize::MAX)? {
+            Listed::All(paths) => Ok(at_most(others(&self.root, paths), max)),
+            Listed::Many => Err(DiskFault::NoMemory),
+        }
+    }
+}
+
+/// Those of the paths that are not the vault's own.
+fn others(root: &DirPath, paths: Vec<FilePath>) -> Vec<FilePath>
+    ensures others { result.items ≡ others root.now paths.items }
+    ensures few { length result.items ≤ length paths.items }
+{
+    let mut paths = paths;
+    paths.retain(|path| !is_service(root, path));
+    paths
+}
+
+/// The paths, where there are at most `max`.
+fn at_most(paths: Vec<FilePath>, max: usize) -> Listed
+    ensures { IsAtMost paths.items max result }
+{
+    if paths.len() <= max {
+        Listed::All(paths)
+    } else {
+        Listed::Many
+    }
+}
