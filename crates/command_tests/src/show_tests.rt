@@ -165,14 +165,14 @@ fn a_name_may_end_as_its_file_does(rt: HostRuntime) -> Result<(), Fail> {
 fn a_file_that_is_not_read_yet_refuses_the_opening(rt: HostRuntime) -> Result<(), Fail> {
     const PENDING: (&str, &[u8]) = ("root/.gopass-pending", b"");
     const MOUNTS: (&str, &[u8]) = ("root/.gopass-mounts", b"x");
-    const JOURNAL: (&str, &[u8]) = ("root/.gopass-journal", b"journal 1\nend\n");
+    const JOURNAL: (&str, &[u8]) = ("root/.gopass-journal", b"journal 1\nput\troot/a.gpg\n");
     let two: &[(&str, &[u8])] = &[SITE, PENDING, MOUNTS];
     let three: &[(&str, &[u8])] = &[SITE, PENDING, MOUNTS, JOURNAL];
     let one: &[(&str, &[u8])] = &[SITE, PENDING];
     for (files, err) in [
         (one, "gopass: root/.gopass-pending: line 1 is bad\n"),
         (two, "gopass: root/.gopass-mounts: line 1 is bad\n"),
-        (three, "gopass: root/.gopass-journal: line 1 is bad\n"),
+        (three, "gopass: root/.gopass-journal: line 3 is bad\n"),
     ] {
         let store = Store { files, ..STORE };
         check_rows(&rt, &store, &[(&["show", "web/"], 6, "", err)])?;
@@ -212,4 +212,41 @@ fn faults_of_the_outside_are_told(rt: HostRuntime) -> Result<(), Fail> {
         ..STORE
     };
     check_rows(&rt, &sink, &[(show, 16, "", "")])
+}
+
+#[test]
+fn a_journal_that_does_not_read_refuses_the_opening(rt: HostRuntime) -> Result<(), Fail> {
+    const ENDLESS: (&str, &[u8]) = ("root/.gopass-journal", b"journal 1\nput\troot/a.gpg\n");
+    const OUTSIDE: (&str, &[u8]) = ("root/.gopass-journal", b"journal 1\ndrop\t../x\nend\n");
+    let endless: &[(&str, &[u8])] = &[SITE, ENDLESS];
+    let outside: &[(&str, &[u8])] = &[SITE, OUTSIDE];
+    for (files, err) in [
+        (endless, "gopass: root/.gopass-journal: line 3 is bad\n"),
+        (outside, "gopass: root/.gopass-journal: line 2 is bad\n"),
+    ] {
+        let store = Store { files, ..STORE };
+        check_rows(&rt, &store, &[(&["show", "web/site"], 6, "", err)])?;
+    }
+    Ok(())
+}
+
+#[test]
+fn a_journal_is_carried_out_before_a_secret_is_shown(rt: HostRuntime) -> Result<(), Fail> {
+    const NOTHING: (&str, &[u8]) = ("root/.gopass-journal", b"journal 1\nend\n");
+    const PUT: (&str, &[u8]) = (
+        "root/.gopass-journal",
+        b"journal 1\nput\troot/web/site.gpg\nend\n",
+    );
+    const STAGED: (&str, &[u8]) = (
+        "root/.gopass-stage/000000",
+        b"gopass-standin 1\nto alice\nbody 6e65770a\nend\n",
+    );
+    let nothing: &[(&str, &[u8])] = &[SITE, NOTHING];
+    let put: &[(&str, &[u8])] = &[SITE, PUT, STAGED];
+    let unsealed: &[(&str, &[u8])] = &[SITE, STAGED];
+    for (files, out) in [(nothing, "pw\n"), (put, "new\n"), (unsealed, "pw\n")] {
+        let store = Store { files, ..STORE };
+        check_rows(&rt, &store, &[(&["show", "web/site"], 0, out, "")])?;
+    }
+    Ok(())
 }

@@ -56,12 +56,12 @@ fn counts(alloc: Global, command: Command) -> Result<(u8, u64, u64), Fail> {
     Ok((reply.status, calls, store.into_vault().into_disk().steps()))
 }
 
-// An opening asks for the lock, reads three files and a rule file, and lists one mount.
+// An opening makes six calls for the vault, reads two files and a rule file, and lists one mount.
 #[test]
 fn show_reads_one_file_and_calls_the_tool_once(rt: HostRuntime) -> Result<(), Fail> {
     let name = String::from_str(rt.alloc(), "web/site")?;
     let left = counts(rt.alloc(), Command::Show { name })?;
-    assert_eq!(rt; left, (0, 1, 7));
+    assert_eq!(rt; left, (0, 1, 11));
     Ok(())
 }
 
@@ -69,19 +69,19 @@ fn show_reads_one_file_and_calls_the_tool_once(rt: HostRuntime) -> Result<(), Fa
 fn a_missing_secret_asks_nothing(rt: HostRuntime) -> Result<(), Fail> {
     let name = String::from_str(rt.alloc(), "web")?;
     let left = counts(rt.alloc(), Command::Show { name })?;
-    assert_eq!(rt; left, (3, 0, 6));
+    assert_eq!(rt; left, (3, 0, 10));
     Ok(())
 }
 
 #[test]
 fn listings_ask_nothing(rt: HostRuntime) -> Result<(), Fail> {
     let text = String::from_str(rt.alloc(), "web")?;
-    assert_eq!(rt; counts(rt.alloc(), Command::Find { text })?, (0, 0, 6));
-    assert_eq!(rt; counts(rt.alloc(), Command::Mounts)?, (0, 0, 6));
+    assert_eq!(rt; counts(rt.alloc(), Command::Find { text })?, (0, 0, 10));
+    assert_eq!(rt; counts(rt.alloc(), Command::Mounts)?, (0, 0, 10));
     let ls = Command::Ls {
         folder: None,
         flat: false,
     };
-    assert_eq!(rt; counts(rt.alloc(), ls)?, (0, 0, 6));
+    assert_eq!(rt; counts(rt.alloc(), ls)?, (0, 0, 10));
     Ok(())
 }

@@ -5,9 +5,12 @@ use Rattle.std.specs.Option.{option_to_list}
 use Rattle.gopass_base.specs.Text.{Text}
 use Rattle.gopass_base.specs.Faults.{Rose}
 use Rattle.disk_model.specs.Files.{Files}
-use Rattle.pending_journal.specs.Opened.{RefusesVault, journal_path}
-use Rattle.pending_journal.specs.declared.vault.VaultFault.{VaultFault}
-use Rattle.pending_journal.specs.declared.vault.VaultFault.TheVariants.{BadJournal, Disk as VaultDisk, NoMemory as VaultNoMemory}
+use Rattle.disk_model.specs.Disk.{View, Rests}
+use Rattle.disk_model.specs.Runs.{Leaves}
+use Rattle.pending_journal.specs.Redo.{StandsFor as StandsForFiles}
+use Rattle.pending_journal.specs.Faults.{RefusesVault}
+use Rattle.pending_journal.specs.declared.fault.VaultFault.{VaultFault}
+use Rattle.pending_journal.specs.declared.fault.VaultFault.TheVariants.{BadJournal, Disk as VaultDisk, NoMemory as VaultNoMemory}
 use Rattle.cipher_port.specs.Tool.{Opens, Ring}
 use Rattle.command_words.specs.declared.command.Command.{Command}
 use Rattle.store_core.specs.declared.fault.StoreFault.{StoreFault}
@@ -97,19 +100,19 @@ said_calmly S old new said disk tools had p = said_by_none S old new p.events p.
 -- ---- openings that are refused
 
 -- by the store
-pub runs_fault : (opens : Opens) (root : Text) (files : Files) (ring : Ring) (command : Command) (old new : Faults) (fault : StoreFault) (said : Said) → old.tools ≤ new.tools → files (journal_path root) ≡ None → OpensStore root files (Err fault)
+pub runs_fault : (opens : Opens) (root : Text) (files after : Files) (ring : Ring) (command : Command) (old new : Faults) (fault : StoreFault) (said : Said) → old.tools ≤ new.tools → StandsForFiles root files after → OpensStore root after (Err fault)
     → (fault ≡ Disk → Rose old.disk new.disk) → Says (fault_said fault) said → Runs (SaysOfCommand opens root files ring command) old new said
-runs_fault opens root files ring command old new (BadFile path line) said later none refuses rose says =
-    runs_meant (SaysOfCommand opens root files ring command) old new later (fault_said (BadFile path line)) said (inr (inl (record { no_journal = none; fault = BadFile path line; of_files = tt; refuses = refuses; says = refl }))) says
-runs_fault opens root files ring command old new (Full limit) said later none refuses rose says =
-    runs_meant (SaysOfCommand opens root files ring command) old new later (fault_said (Full limit)) said (inr (inl (record { no_journal = none; fault = Full limit; of_files = tt; refuses = refuses; says = refl }))) says
-runs_fault opens root files ring command old new Disk said later none refuses rose says = runs_disk (SaysOfCommand opens root files ring command) old new later said (rose refl) says
-runs_fault opens root files ring command old new NoMemory said later none refuses rose says = runs_no_memory (SaysOfCommand opens root files ring command) old new later said says
+runs_fault opens root files after ring command old new (BadFile path line) said later redone refuses rose says =
+    runs_meant (SaysOfCommand opens root files ring command) old new later (fault_said (BadFile path line)) said (inr (inl (record { after = after; redone = redone; fault = BadFile path line; of_files = tt; refuses = refuses; says = refl }))) says
+runs_fault opens root files after ring command old new (Full limit) said later redone refuses rose says =
+    runs_meant (SaysOfCommand opens root files ring command) old new later (fault_said (Full limit)) said (inr (inl (record { after = after; redone = redone; fault = Full limit; of_files = tt; refuses = refuses; says = refl }))) says
+runs_fault opens root files after ring command old new Disk said later redone refuses rose says = runs_disk (SaysOfCommand opens root files ring command) old new later said (rose refl) says
+runs_fault opens root files after ring command old new NoMemory said later redone refuses rose says = runs_no_memory (SaysOfCommand opens root files ring command) old new later said says
 
 -- by the vault
 pub runs_vault : (opens : Opens) (root : Text) (files : Files) (ring : Ring) (command : Command) (old new : Faults) (fault : VaultFault) (said : Said) → old.tools ≤ new.tools → RefusesVault root files fault
     → (fault ≡ VaultDisk → Rose old.disk new.disk) → Says (vault_said root fault) said → Runs (SaysOfCommand opens root files ring command) old new said
-runs_vault opens root files ring command old new (BadJournal line) said later (first, there) rose says =
-    runs_meant (SaysOfCommand opens root files ring command) old new later (vault_said root (BadJournal line)) said (inl (record { there = there; says = ap (λ n. refused 6 (bad_line (journal_path root) n)) first })) says
+runs_vault opens root files ring command old new (BadJournal line) said later bad rose says =
+    runs_meant (SaysOfCommand opens root files ring command) old new later (vault_said root (BadJournal line)) said (inl (record { bad = bad; line = line; says = refl })) says
 runs_vault opens root files ring command old new VaultDisk said later refuses rose says = runs_disk (SaysOfCommand opens root files ring command) old new later said (rose refl) says
 runs_vault opens root files ring command old new VaultNoMemory said later refuses rose says = runs_no_memory (SaysOfCommand opens root files ring command) old new later said says

@@ -1,10 +1,12 @@
 -- What a run says that opens a store.
-use Rattle.std.specs.Prelude.{◌≡◌, ◌≢◌, ◌⊎◌, None, Err}
+use Rattle.std.specs.Prelude.{◌≡◌, ◌⊎◌, ℕ, Err}
 use Rattle.gopass_base.specs.Text.{Text}
 use Rattle.disk_model.specs.Files.{Files}
-use Rattle.pending_journal.specs.Opened.{journal_path}
-use Rattle.pending_journal.specs.declared.vault.VaultFault.{VaultFault}
-use Rattle.pending_journal.specs.declared.vault.VaultFault.TheVariants.{BadJournal, Disk as NoVaultDisk, NoMemory as NoVaultRoom}
+use Rattle.pending_journal.specs.Service.{journal_path}
+use Rattle.pending_journal.specs.Redo.{StandsFor as StandsForFiles}
+use Rattle.pending_journal.specs.Faults.{HasBadJournal}
+use Rattle.pending_journal.specs.declared.fault.VaultFault.{VaultFault}
+use Rattle.pending_journal.specs.declared.fault.VaultFault.TheVariants.{BadJournal, Disk as NoVaultDisk, NoMemory as NoVaultRoom}
 use Rattle.cipher_port.specs.Tool.{Opens, Ring}
 use Rattle.command_words.specs.declared.command.Command.{Command}
 use Rattle.store_core.specs.declared.fault.StoreFault.{StoreFault}
@@ -18,10 +20,11 @@ use Rattle.store_core.specs.Said.{Said, refused, unsaid}
 use Rattle.store_core.specs.Texts.{bad_line, limit_passed}
 use Rattle.gopass_cli.specs.Plan.{plan_of}
 
--- a journal is there; it is bad at line 1, since it is not read yet
+-- a journal is there that does not read: it is bad at one of its lines
 pub record SaysOfJournal (root : Text) (files : Files) (said : Said) : Type 0 where
-  pub there : files (journal_path root) ≢ None
-  pub says : said ≡ refused 6 (bad_line (journal_path root) 1)
+  pub bad : HasBadJournal root files
+  pub line : ℕ
+  pub says : said ≡ refused 6 (bad_line (journal_path root) line)
 
 -- what is said of a vault that is refused
 abbrev pub vault_said : Text → VaultFault → Said
@@ -43,21 +46,23 @@ IsOfFiles (Full limit) = Unit {0}
 IsOfFiles Disk = ⊥
 IsOfFiles NoMemory = ⊥
 
--- no journal is there, and the files of the store refuse its opening
+-- the files for which those on the disk stand refuse the opening of the store
 pub record SaysOfFault (root : Text) (files : Files) (said : Said) : Type 0 where
-  pub no_journal : files (journal_path root) ≡ None
+  pub after : Files
+  pub redone : StandsForFiles root files after
   pub fault : StoreFault
   pub of_files : IsOfFiles fault
-  pub refuses : OpensStore root files (Err fault)
+  pub refuses : OpensStore root after (Err fault)
   pub says : said ≡ fault_said fault
 
--- the store opens, and what is planned in the state of its files is said
+-- the files for which those on the disk stand are those of a store, and what is planned in its state is said
 pub record SaysOpened (opens : Opens) (root : Text) (files : Files) (ring : Ring) (command : Command) (events : Events) (said : Said) : Type 0 where
-  pub no_journal : files (journal_path root) ≡ None
+  pub after : Files
+  pub redone : StandsForFiles root files after
   pub found : Found
-  pub finds : IsFound root files found
+  pub finds : IsFound root after found
   pub state : State
-  pub stands : StandsFor opens root files state
+  pub stands : StandsFor opens root after state
   pub says : said ≡ (plan_of ring command state events).said
 
 -- what is said of a command on these files, for what the outside gave

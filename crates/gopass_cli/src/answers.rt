@@ -1,8 +1,11 @@
 //! The answer to the words of a command line.
 
-ghost use Rattle.std.specs.Prelude.{◌≡◌, ◌≤◌, IsFalse, None, map, string_bytes, vec_len};
+ghost use Rattle.std.specs.Prelude.{◌≡◌, ◌≤◌, IsFalse, map, string_bytes, vec_len};
+ghost use Rattle.disk_model.specs.Files.{Files};
 ghost use Rattle.disk_model.specs.Disk.{Rests};
-ghost use Rattle.pending_journal.specs.Opened.{journal_path};
+ghost use Rattle.disk_model.specs.Runs.{Leaves};
+ghost use Rattle.pending_journal.specs.Redo.{StandsFor as StandsForFiles};
+ghost use Rattle.pending_journal.specs.Recovery.{IsOldOrAlike};
 ghost use Rattle.cipher_port.specs.Tool.{Ring};
 ghost use Rattle.store_core.specs.State.{State, StandsFor};
 ghost use Rattle.store_core.specs.Moment.{HaveRing};
@@ -106,9 +109,9 @@ fn answer_vault<D: Disk + Send, C: Cipher + Send>(
     requires few { vec_len tools.old ≤ 16 }
     requires rings { C.meaning.tells → (ring : Ring) × HaveRing C.meaning tools.old.items ring }
     requires free { IsFalse vault.stuck }
-    ensures answers { (D.meaning.view vault.disk).files (journal_path vault.root) ≡ None
+    ensures answers { (files : Files) → StandsForFiles vault.root files (D.meaning.view vault.disk).files
         → Answers D.meaning C.meaning vault.disk result.disk tools.old.items tools.new.items
-        (λ ring. SaysOfCommand C.meaning.opens vault.root (D.meaning.view vault.disk).files ring command) (said_in result.reply) }
+        (λ ring. SaysOfCommand C.meaning.opens vault.root files ring command) (said_in result.reply) }
     ensures rests { D.meaning.tells → Rests (D.meaning.view vault.disk) (D.meaning.view result.disk) }
     ensures rings { (ring : Ring) → HaveRing C.meaning tools.old.items ring → HaveRing C.meaning tools.new.items ring }
     ensures count { vec_len tools.new ≡ vec_len tools.old }
@@ -137,7 +140,7 @@ fn answer_command<D: Disk + Send, C: Cipher + Send>(
     requires rings { C.meaning.tells → (ring : Ring) × HaveRing C.meaning tools.old.items ring }
     ensures answers { Answers D.meaning C.meaning disk result.disk tools.old.items tools.new.items
         (λ ring. SaysOfCommand C.meaning.opens root.now (D.meaning.view disk).files ring command) (said_in result.reply) }
-    ensures rests { D.meaning.tells → Rests (D.meaning.view disk) (D.meaning.view result.disk) }
+    ensures any_moment { D.meaning.tells → Leaves (IsOldOrAlike root.now (D.meaning.view disk)) (D.meaning.view disk) (D.meaning.view result.disk) }
     ensures rings { (ring : Ring) → HaveRing C.meaning tools.old.items ring → HaveRing C.meaning tools.new.items ring }
     ensures count { vec_len tools.new ≡ vec_len tools.old }
     ensures causes { HasCauses (faults_of D.meaning disk C.meaning tools.old.items)
@@ -165,7 +168,7 @@ pub(crate) fn answer<D: Disk + Send, C: Cipher + Send>(
     requires rings { C.meaning.tells → (ring : Ring) × HaveRing C.meaning tools.old.items ring }
     ensures answers { Answers D.meaning C.meaning disk result.disk tools.old.items tools.new.items
         (RunSays (map string_bytes words.now) C.meaning.opens root.now (D.meaning.view disk).files) (said_in result.reply) }
-    ensures rests { D.meaning.tells → Rests (D.meaning.view disk) (D.meaning.view result.disk) }
+    ensures any_moment { D.meaning.tells → Leaves (IsOldOrAlike root.now (D.meaning.view disk)) (D.meaning.view disk) (D.meaning.view result.disk) }
     ensures rings { (ring : Ring) → HaveRing C.meaning tools.old.items ring → HaveRing C.meaning tools.new.items ring }
     ensures count { vec_len tools.new ≡ vec_len tools.old }
     ensures causes { HasCauses (faults_of D.meaning disk C.meaning tools.old.items)

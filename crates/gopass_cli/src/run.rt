@@ -1,7 +1,8 @@
 //! A run of the program.
 
 ghost use Rattle.std.specs.Prelude.{◌≡◌, ◌≤◌, map, string_bytes, vec_len};
-ghost use Rattle.disk_model.specs.Disk.{Rests};
+ghost use Rattle.disk_model.specs.Runs.{Leaves};
+ghost use Rattle.pending_journal.specs.Recovery.{IsOldOrAlike};
 ghost use Rattle.cipher_port.specs.Tool.{Ring};
 ghost use Rattle.store_core.specs.Moment.{HaveRing};
 ghost use Rattle.gopass_cli.specs.Ran.{Ran, RanCalmly, RanWithCauses, meanings, outside};
@@ -25,7 +26,7 @@ pub struct Ended<D> {
 ///
 /// The words are `show NAME`, `ls [--flat] [FOLDER]`, `find TEXT`, `mounts` or `recipients` as yet. The status is 0
 /// where the command is done; 1 where `find` has no hit; 2 for bad words or a bad name, 3 for a secret
-/// or folder that is not there, 6 where a journal or a pending file is there or the mounts file or a
+/// or folder that is not there, 6 where a pending file is there or the journal, the mounts file or a
 /// rule file does not read, 8 where the file is not sealed or no key is held, 10 where the store has too many files,
 /// rules or secrets, 11 where the tool failed, 12 where the disk failed, 14 for want of memory and 16 where
 /// a sink failed.
@@ -54,8 +55,9 @@ pub fn gopass<D: Disk + Send, C: Cipher + Send, O: Sink, E: Sink>(
         (outside disk tools.old.items out.old err.old)
         (outside result.disk tools.new.items out.new err.new) result.status }
 
-    // The files, the rings and the number of tools stay.
-    ensures rests { D.meaning.tells → Rests (D.meaning.view disk) (D.meaning.view result.disk) }
+    // What a crash leaves at any moment was there at the start, or stands for the same files. The rings
+    // and the number of tools stay.
+    ensures any_moment { D.meaning.tells → Leaves (IsOldOrAlike root.now (D.meaning.view disk)) (D.meaning.view disk) (D.meaning.view result.disk) }
     ensures rings { (ring : Ring) → HaveRing C.meaning tools.old.items ring → HaveRing C.meaning tools.new.items ring }
     ensures count { vec_len tools.new ≡ vec_len tools.old }
 

@@ -5,6 +5,7 @@ use Rattle.gopass_base.specs.Text.{Text}
 use Rattle.gopass_base.specs.Faults.{Rose}
 use Rattle.disk_model.specs.Disk.{Rests}
 use Rattle.disk_model.specs.Files.{Files}
+use Rattle.disk_model.proofs.RunLemmas.{rests_none}
 use Rattle.cipher_port.specs.Tool.{Opens}
 use Rattle.store_core.specs.State.{State, StandsFor}
 use Rattle.store_core.specs.Said.{Said, Plan}
@@ -19,7 +20,7 @@ pub record Still (old new : Moment) : Type 0 where
   pub tools_later : old.faults.tools ≤ new.faults.tools
 
 pub still_same : (m : Moment) → Still m m
-still_same m = record { rests = record { files = refl }; commits = refl; tools_later = omega arith }
+still_same m = record { rests = rests_none m.view; commits = refl; tools_later = omega arith }
 
 cause_in : Option Stop → Cause
 cause_in None = Memory

@@ -6,10 +6,10 @@ use Rattle.std.proofs.lemmas.List.{get_or_at, get_or_append_left}
 use Rattle.gopass_base.specs.Text.{Text}
 use Rattle.mount_table.specs.Mounts.{row_at}
 use Rattle.mount_table.specs.declared.mounts.Row.{Row}
-use Rattle.disk_model.specs.Disk.{View, Rests}
 use Rattle.disk_model.specs.Files.{Files}
 use Rattle.disk_model.specs.Listing.{LiesIn, IsThere}
 use Rattle.pending_journal.specs.Opened.{IsKept}
+use Rattle.disk_model.specs.declared.disk.Disk.{Ghosts}
 use Rattle.pending_journal.specs.declared.vault.Vault.{Vault}
 use Rattle.store_core.specs.declared.kind.Kind.{Kind}
 use Rattle.store_core.specs.declared.seen.Seen.{Seen}
@@ -21,10 +21,7 @@ use Rattle.store_core.specs.Found.{LiesAs, HasMore, GivesName, GivesRule, GivesT
 use Rattle.store_core.specs.Tree.{IsTree, IsFullTree, tree_files}
 use Rattle.store_core.specs.Survey.{IsMountSeen, IsOfFiles, IsSeen, IsCountOf, IsFullMount}
 
-pub rests_then : (a b c : View) → Rests a b → Rests b c → Rests a c
-rests_then a b c h k = record { files = k.files ∙ h.files }
-
-pub kept_then : {D : Type 0} (a b c : Vault D) → IsKept a b → IsKept b c → IsKept a c
+pub kept_then : {D : Type 0} {G : Ghosts D} (a b c : Vault D G) → IsKept a b → IsKept b c → IsKept a c
 kept_then a b c h k = record { root = k.root ∙ h.root; commits = k.commits ∙ h.commits; stuck = k.stuck ∙ h.stuck }
 
 -- ---- one mount more

@@ -15,12 +15,12 @@ IfReady (Ready store) P = P store
 IfReady (Refused fault vault) P = Unit {0}
 
 -- of the fault and the vault that is handed back
-abbrev pub IfRefused : {D : Type 0} {G : Ghosts D} → StoreOpened D G → (StoreFault → Vault D → Type 0) → Type 0
+abbrev pub IfRefused : {D : Type 0} {G : Ghosts D} → StoreOpened D G → (StoreFault → Vault D G → Type 0) → Type 0
 IfRefused (Ready store) P = Unit {0}
 IfRefused (Refused fault vault) P = P fault vault
 
 -- of the vault, in the store or handed back
-abbrev pub OnVault : {D : Type 0} {G : Ghosts D} → StoreOpened D G → (Vault D → Type 0) → Type 0
+abbrev pub OnVault : {D : Type 0} {G : Ghosts D} → StoreOpened D G → (Vault D G → Type 0) → Type 0
 OnVault (Ready store) P = P store.vault
 OnVault (Refused fault vault) P = P vault
 

@@ -121,8 +121,9 @@ fn a_tree_with_mounts_in_mounts(rt: HostRuntime) -> Result<(), Fail> {
 #[test]
 fn an_opening_reads_each_rule_and_lists_each_mount_once(rt: HostRuntime) -> Result<(), Fail> {
     let store = store(&rt, disk(&rt, TREE)?)?;
-    // The lock, the journal, the mounts file, the pending file, three listings, and a rule file.
-    assert_eq!(rt; store.into_vault().into_disk().steps(), 8);
+    // The lock, a sync, the journal, its new text and the stage that go, and a sync. Then the mounts
+    // file, the pending file, three listings, and a rule file.
+    assert_eq!(rt; store.into_vault().into_disk().steps(), 12);
     Ok(())
 }
 
@@ -263,7 +264,7 @@ fn files_that_refuse_the_opening(rt: HostRuntime) -> Result<(), Fail> {
 
 #[test]
 fn a_failing_call_refuses_the_opening(rt: HostRuntime) -> Result<(), Fail> {
-    for call in [2u64, 3, 4, 5, 6, 7] {
+    for call in [6u64, 7, 8, 9, 10, 11] {
         let mut disk = disk(&rt, TREE)?;
         disk.fail_at(vec![in rt.alloc(); call]?);
         assert_eq!(rt; fault(&rt, disk)?.as_str(), "Disk", "{call}");

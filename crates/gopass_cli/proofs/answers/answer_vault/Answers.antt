@@ -13,7 +13,7 @@ use Rattle.gopass_cli.proofs.RunLemmas.{runs_fault, runs_later, runs_weaker}
 use Rattle.gopass_cli.proofs.answers.answer_vault.Goals as goal
 
 pub returns-in-Ready-clause-answers : goal.returns-in-Ready-clause-answers
-returns-in-Ready-clause-answers g c none told tells ring have =
+returns-in-Ready-clause-answers g c first redone told tells ring have =
     let vault = c.args.vault in
     let store = c.in-Ready.store in
     let opens = g.C.Cipher.meaning.opens in
@@ -27,16 +27,16 @@ returns-in-Ready-clause-answers g c none told tells ring have =
     let new = faults_of g.D.Disk.meaning c.answer_open.result.disk g.C.Cipher.meaning c.answer_open.new.tools.items in
     let said = said_in c.answer_open.result.reply in
     let says = λ (events : Events) (s : Said). s ≡ (plan_of ring c.args.command state events).said in
-    runs_weaker says (SaysOfCommand opens vault.root files ring c.args.command) old new said
-    (λ events h. inr (inr (record { no_journal = none; found = store.found; finds = found; state = state; stands = stands; says = h })))
+    runs_weaker says (SaysOfCommand opens vault.root first ring c.args.command) old new said
+    (λ events h. inr (inr (record { after = files; redone = redone; found = store.found; finds = found; state = state; stands = stands; says = h })))
     (runs_later says old mid new said c.in-Ready.ensures.later (omega arith) (c.answer_open.ensures.answers state here told tells ring have))
 
 pub returns-in-Refused-clause-answers : goal.returns-in-Refused-clause-answers
-returns-in-Refused-clause-answers g c none told tells ring have =
+returns-in-Refused-clause-answers g c first redone told tells ring have =
     let vault = c.args.vault in
     let old = faults_of g.D.Disk.meaning vault.disk g.C.Cipher.meaning c.args.tools.now.items in
     let new = faults_of g.D.Disk.meaning c.in-Refused.vault.disk g.C.Cipher.meaning c.args.tools.now.items in
     let files = (g.D.Disk.meaning.view vault.disk).files in
-    let says = SaysOfCommand g.C.Cipher.meaning.opens vault.root files ring c.args.command in
+    let says = SaysOfCommand g.C.Cipher.meaning.opens vault.root first ring c.args.command in
     subst (λ d. Runs says old (faults_of g.D.Disk.meaning d g.C.Cipher.meaning c.args.tools.now.items) (said_in c.refuse_store.result)) (sym c.into_disk.ensures)
-    (runs_fault g.C.Cipher.meaning.opens vault.root files ring c.args.command old new c.in-Refused.fault (said_in c.refuse_store.result) (omega arith) none (c.in-Refused.ensures.opens told) (λ e. c.in-Refused.ensures.cause.failed e) c.refuse_store.ensures)
+    (runs_fault g.C.Cipher.meaning.opens vault.root first files ring c.args.command old new c.in-Refused.fault (said_in c.refuse_store.result) (omega arith) redone (c.in-Refused.ensures.opens told) (λ e. c.in-Refused.ensures.cause.failed e) c.refuse_store.ensures)

@@ -9,7 +9,8 @@ use Rattle.path_rules.specs.RuleMap.{RuleMap}
 use Rattle.recipient_files.specs.Ids.{Ids}
 use Rattle.store_core.specs.RuleFiles.{AreRules, IsRuleThere}
 use Rattle.store_core.proofs.RuleFileLemmas.{none_are, one_more, none_before}
-use Rattle.store_core.proofs.SurveyLemmas.{rests_then, kept_then}
+use Rattle.disk_model.proofs.RunLemmas.{rests_then, rests_none}
+use Rattle.store_core.proofs.SurveyLemmas.{kept_then}
 use Rattle.store_core.proofs.rule_files.read_rules.Goals as goal
 
 pub loop-folder-init : goal.loop-folder-init
@@ -21,7 +22,7 @@ loop-folder-init g c =
       kept = record { root = refl; commits = refl; stuck = refl };
       later = omega arith;
       few = omega (arith, ap (λ (rules : RuleMap). map.len rules) c.new-rules.ensures, map.len-empty (slice_cmp nat_cmp) Ids);
-      told = λ told. (record { files = refl }, subst (AreRules start.root files c.args.mounts.now []) (sym c.new-rules.ensures) (none_are start.root files c.args.mounts.now));
+      told = λ told. (rests_none (disk.view start.disk), subst (AreRules start.root files c.args.mounts.now []) (sym c.new-rules.ensures) (none_are start.root files c.args.mounts.now));
     }
 
 pub loop-folder-preserved : goal.loop-folder-preserved

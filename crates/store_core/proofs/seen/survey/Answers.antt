@@ -7,7 +7,8 @@ use Rattle.mount_table.specs.Mounts.{row_at}
 use Rattle.store_core.specs.declared.seen.Seen.{Seen}
 use Rattle.store_core.specs.Tree.{IsFullTree}
 use Rattle.store_core.specs.Survey.{IsMountSeen, IsSeen, IsFullMount, IsSurvey}
-use Rattle.store_core.proofs.SurveyLemmas.{rests_then, kept_then, seen_more, counts_more, full_there, lists_fault}
+use Rattle.disk_model.proofs.RunLemmas.{rests_then}
+use Rattle.store_core.proofs.SurveyLemmas.{kept_then, seen_more, counts_more, full_there, lists_fault}
 use Rattle.store_core.proofs.seen.survey.Goals as goal
 
 pub loop-row-preserved : goal.loop-row-preserved
