@@ -4,13 +4,14 @@ use Rattle.gopass_base.specs.Text.{Text}
 use Rattle.command_words.specs.Lookup.{Meant, meaning_of}
 use Rattle.command_words.specs.Options.{no_flags}
 use Rattle.command_words.specs.declared.verb.Verb.{Verb}
-use Rattle.command_words.specs.declared.verb.Verb.TheVariants.{Find, Ls, Mounts, Recipients, Show}
+use Rattle.command_words.specs.declared.verb.Verb.TheVariants.{Find, Insert, Ls, Mounts, Recipients, Show}
 use Rattle.command_words.specs.declared.verb.Form.{Form}
 
 -- the words of the commands
 abbrev pub commands : List (Meant Verb)
 commands =
     record { word = codes "find"; meaning = Find }
+    ∷ record { word = codes "insert"; meaning = Insert }
     ∷ record { word = codes "list"; meaning = Ls }
     ∷ record { word = codes "ls"; meaning = Ls }
     ∷ record { word = codes "mounts"; meaning = Mounts }
@@ -26,6 +27,7 @@ verb_at word = meaning_of commands word
 -- subcommand, of which none is there
 abbrev pub form_of : Verb → Form
 form_of Find = record { least = 1; most = 1; flags = no_flags; has_subcommands = false }
+form_of Insert = record { least = 1; most = 1; flags = record no_flags { force = true; multi = true }; has_subcommands = false }
 form_of Ls = record { least = 0; most = 1; flags = record no_flags { flat = true }; has_subcommands = false }
 form_of Mounts = record { least = 0; most = 0; flags = no_flags; has_subcommands = true }
 form_of Recipients = record { least = 0; most = 0; flags = no_flags; has_subcommands = true }
@@ -39,4 +41,5 @@ verb_with code =
     else if code == 2 then Some Show
     else if code == 3 then Some Mounts
     else if code == 4 then Some Recipients
+    else if code == 5 then Some Insert
     else None

@@ -3,12 +3,18 @@ use Rattle.std.specs.Prelude.{ℕ, ◌==◌, Bool, true, false, List, [], ◌∷
 use Rattle.gopass_base.specs.Text.{Text}
 use Rattle.command_words.specs.Lookup.{Meant, meaning_of}
 use Rattle.command_words.specs.declared.options.Flag.{Flag}
-use Rattle.command_words.specs.declared.options.Flag.TheVariants.{Flat}
+use Rattle.command_words.specs.declared.options.Flag.TheVariants.{Flat, Force, Multi}
 use Rattle.command_words.specs.declared.options.Flags.{Flags}
 
 -- the spellings of the options
 abbrev pub spellings : List (Meant Flag)
-spellings = record { word = codes "--flat"; meaning = Flat } ∷ []
+spellings =
+    record { word = codes "--flat"; meaning = Flat }
+    ∷ record { word = codes "--force"; meaning = Force }
+    ∷ record { word = codes "--multiline"; meaning = Multi }
+    ∷ record { word = codes "-f"; meaning = Force }
+    ∷ record { word = codes "-m"; meaning = Multi }
+    ∷ []
 
 -- the option that a word spells
 abbrev pub flag_at : Text → Option Flag
@@ -18,15 +24,21 @@ flag_at word = meaning_of spellings word
 abbrev pub flag_with : ℕ → Option Flag
 flag_with code =
     if code == 0 then Some Flat
+    else if code == 1 then Some Force
+    else if code == 2 then Some Multi
     else None
 
 abbrev pub no_flags : Flags
-no_flags = record { flat = false }
+no_flags = record { flat = false; force = false; multi = false }
 
 -- whether an option is in a set
 abbrev pub has : Flags → Flag → Bool
 has flags Flat = flags.flat
+has flags Force = flags.force
+has flags Multi = flags.multi
 
 -- a set with one option more
 abbrev pub with : Flags → Flag → Flags
 with flags Flat = record flags { flat = true }
+with flags Force = record flags { force = true }
+with flags Multi = record flags { multi = true }

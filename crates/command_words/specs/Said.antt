@@ -5,7 +5,7 @@ use Rattle.gopass_base.specs.Text.{Text}
 use Rattle.command_words.specs.Options.{no_flags}
 use Rattle.command_words.specs.declared.options.Flags.{Flags}
 use Rattle.command_words.specs.declared.verb.Verb.{Verb}
-use Rattle.command_words.specs.declared.verb.Verb.TheVariants.{Find, Ls, Mounts, Recipients, Show}
+use Rattle.command_words.specs.declared.verb.Verb.TheVariants.{Find, Insert, Ls, Mounts, Recipients, Show}
 use Rattle.command_words.specs.declared.command.Command.{Command}
 use Rattle.command_words.specs.declared.command.Command.TheVariants as command
 
@@ -18,6 +18,7 @@ pub record Said : Type 0 where
 -- what a command says
 abbrev pub said : Command → Said
 said (command.Find text) = record { verb = Find; flags = no_flags; plain = string_bytes text ∷ [] }
+said (command.Insert name force multi) = record { verb = Insert; flags = record no_flags { force = force; multi = multi }; plain = string_bytes name ∷ [] }
 said (command.Ls folder flat) = record { verb = Ls; flags = record no_flags { flat = flat }; plain = map string_bytes (option_to_list folder) }
 said command.Mounts = record { verb = Mounts; flags = no_flags; plain = [] }
 said command.Recipients = record { verb = Recipients; flags = no_flags; plain = [] }
@@ -25,4 +26,4 @@ said (command.Show name) = record { verb = Show; flags = no_flags; plain = strin
 
 -- those of the options that are among these
 abbrev pub only : Flags → Flags → Flags
-only these flags = record { flat = these.flat && flags.flat }
+only these flags = record { flat = these.flat && flags.flat; force = these.force && flags.force; multi = these.multi && flags.multi }

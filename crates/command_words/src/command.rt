@@ -12,11 +12,25 @@ use crate::verb::Verb;
 #[derive(Debug, Drop)]
 pub enum Command {
     /// `show NAME`
-    Show { name: String },
+    Show {
+        name: String,
+    },
     /// `ls [--flat] [FOLDER]`
-    Ls { folder: Option<String>, flat: bool },
+    Ls {
+        folder: Option<String>,
+        flat: bool,
+    },
     /// `find TEXT`
-    Find { text: String },
+    Find {
+        text: String,
+    },
+    /// `insert [-f] [-m] NAME`, where `force` is `-f` or `--force`, and `multi` is `-m` or
+    /// `--multiline`
+    Insert {
+        name: String,
+        force: bool,
+        multi: bool,
+    },
     /// `mounts`
     Mounts,
     /// `recipients`
@@ -32,6 +46,11 @@ pub(crate) fn build(verb: Verb, flags: Flags, plain: Vec<String>) -> Command
 {
     match verb {
         Verb::Find => Command::Find { text: one(plain) },
+        Verb::Insert => Command::Insert {
+            name: one(plain),
+            force: flags.force,
+            multi: flags.multi,
+        },
         Verb::Ls => Command::Ls {
             folder: at_most_one(plain),
             flat: flags.flat,

@@ -10,12 +10,18 @@ use audit_rules::{WordRow, find, word_table};
 pub(crate) enum Flag {
     /// `--flat`
     Flat,
+    /// `-f` or `--force`
+    Force,
+    /// `-m` or `--multiline`
+    Multi,
 }
 
 /// A set of options.
 #[derive(Clone, Copy, Debug, PartialEq, Eq)]
 pub(crate) struct Flags {
     pub(crate) flat: bool,
+    pub(crate) force: bool,
+    pub(crate) multi: bool,
 }
 
 impl Flags {
@@ -23,7 +29,11 @@ impl Flags {
     pub(crate) fn none() -> Flags
         ensures { result ≡ no_flags }
     {
-        Flags { flat: false }
+        Flags {
+            flat: false,
+            force: false,
+            multi: false,
+        }
     }
 
     /// Whether the option is in the set.
@@ -32,6 +42,8 @@ impl Flags {
     {
         match flag {
             Flag::Flat => self.flat,
+            Flag::Force => self.force,
+            Flag::Multi => self.multi,
         }
     }
 
@@ -42,13 +54,21 @@ impl Flags {
         let mut flags = self;
         match flag {
             Flag::Flat => flags.flat = true,
+            Flag::Force => flags.force = true,
+            Flag::Multi => flags.multi = true,
         }
         flags
     }
 }
 
 /// The spellings of the options.
-const SPELLINGS: [WordRow; 1] = word_table![b"--flat" => 0];
+const SPELLINGS: [WordRow; 5] = word_table![
+    b"--flat" => 0,
+    b"--force" => 1,
+    b"--multiline" => 2,
+    b"-f" => 1,
+    b"-m" => 2,
+];
 
 /// The option of a row of the table of spellings.
 fn flag_with(code: u16) -> Option<Flag>
@@ -56,6 +76,8 @@ fn flag_with(code: u16) -> Option<Flag>
 {
     match code {
         0 => Some(Flag::Flat),
+        1 => Some(Flag::Force),
+        2 => Some(Flag::Multi),
         _ => None,
     }
 }

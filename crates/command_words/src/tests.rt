@@ -19,6 +19,10 @@ const ROWS: &[Row] = &[
     // commands
     (&["show", "a/b"], r#"Ok(Show { name: "a/b" })"#),
     (&["find", "x y"], r#"Ok(Find { text: "x y" })"#),
+    (
+        &["insert", "a"],
+        r#"Ok(Insert { name: "a", force: false, multi: false })"#,
+    ),
     (&["ls"], "Ok(Ls { folder: None, flat: false })"),
     (&["list"], "Ok(Ls { folder: None, flat: false })"),
     (&["ls", "a"], r#"Ok(Ls { folder: Some("a"), flat: false })"#),
@@ -38,6 +42,30 @@ const ROWS: &[Row] = &[
         &["ls", "a", "--flat"],
         r#"Ok(Ls { folder: Some("a"), flat: true })"#,
     ),
+    (
+        &["insert", "-f", "a"],
+        r#"Ok(Insert { name: "a", force: true, multi: false })"#,
+    ),
+    (
+        &["insert", "a", "--force"],
+        r#"Ok(Insert { name: "a", force: true, multi: false })"#,
+    ),
+    (
+        &["insert", "a", "-m"],
+        r#"Ok(Insert { name: "a", force: false, multi: true })"#,
+    ),
+    (
+        &["insert", "--multiline", "a"],
+        r#"Ok(Insert { name: "a", force: false, multi: true })"#,
+    ),
+    (
+        &["insert", "-m", "-f", "a"],
+        r#"Ok(Insert { name: "a", force: true, multi: true })"#,
+    ),
+    (
+        &["insert", "--force", "--multiline", "a"],
+        r#"Ok(Insert { name: "a", force: true, multi: true })"#,
+    ),
     // a word that is no command
     (&[], "Err(Bad { at: 0 })"),
     (&[""], "Err(Bad { at: 0 })"),
@@ -48,6 +76,7 @@ const ROWS: &[Row] = &[
     (&["show\0", "a"], "Err(Bad { at: 0 })"),
     (&["--flat", "ls"], "Err(Bad { at: 0 })"),
     (&["--", "ls"], "Err(Bad { at: 0 })"),
+    (&["-f", "insert", "a"], "Err(Bad { at: 0 })"),
     (&["grep", "a"], "Err(Bad { at: 0 })"),
     // a command that looks at its second word, and no subcommand
     (&["mounts", "add", "a", "b"], "Err(Bad { at: 1 })"),
@@ -64,9 +93,19 @@ const ROWS: &[Row] = &[
     (&["ls", "--Flat"], "Err(Bad { at: 1 })"),
     (&["ls", "--flat=a"], "Err(Bad { at: 1 })"),
     (&["show", "a", "-é"], "Err(Bad { at: 2 })"),
+    (&["show", "-f", "a"], "Err(Bad { at: 1 })"),
+    (&["ls", "-f"], "Err(Bad { at: 1 })"),
+    (&["find", "a", "-m"], "Err(Bad { at: 2 })"),
+    (&["insert", "-x"], "Err(Bad { at: 1 })"),
+    (&["insert", "-fm", "a"], "Err(Bad { at: 1 })"),
+    (&["insert", "--multi", "a"], "Err(Bad { at: 1 })"),
+    (&["insert", "-f", "--flat", "a"], "Err(Bad { at: 2 })"),
     // an option twice
     (&["ls", "--flat", "--flat"], "Err(Bad { at: 2 })"),
     (&["ls", "--flat", "a", "--flat"], "Err(Bad { at: 3 })"),
+    (&["insert", "-f", "-f", "a"], "Err(Bad { at: 2 })"),
+    (&["insert", "-f", "--force", "a"], "Err(Bad { at: 2 })"),
+    (&["insert", "--multiline", "a", "-m"], "Err(Bad { at: 3 })"),
     // a lone dash is a plain word
     (&["find", "-"], r#"Ok(Find { text: "-" })"#),
     (&["ls", "-", "-"], "Err(Bad { at: 2 })"),
@@ -74,6 +113,14 @@ const ROWS: &[Row] = &[
     (&["find", "--", "--flat"], r#"Ok(Find { text: "--flat" })"#),
     (&["find", "--", "--"], r#"Ok(Find { text: "--" })"#),
     (&["find", "a", "--"], r#"Ok(Find { text: "a" })"#),
+    (
+        &["insert", "--", "-x"],
+        r#"Ok(Insert { name: "-x", force: false, multi: false })"#,
+    ),
+    (
+        &["insert", "-f", "--", "-f"],
+        r#"Ok(Insert { name: "-f", force: true, multi: false })"#,
+    ),
     (&["ls", "--"], "Ok(Ls { folder: None, flat: false })"),
     (
         &["ls", "--flat", "--", "--flat"],
@@ -83,11 +130,15 @@ const ROWS: &[Row] = &[
     (&["find", "--", "--", "a"], "Err(Bad { at: 3 })"),
     // plain words too many
     (&["show", "a", "b"], "Err(Bad { at: 2 })"),
+    (&["insert", "a", "b"], "Err(Bad { at: 2 })"),
+    (&["insert", "a", "-f", "b"], "Err(Bad { at: 3 })"),
     (&["ls", "a", "--flat", "b"], "Err(Bad { at: 3 })"),
     (&["ls", "a", "b", "--flat"], "Err(Bad { at: 2 })"),
     // the words end too early, and no word is bad
     (&["show"], "Err(Bad { at: 1 })"),
     (&["find"], "Err(Bad { at: 1 })"),
+    (&["insert"], "Err(Bad { at: 1 })"),
+    (&["insert", "-f", "-m"], "Err(Bad { at: 3 })"),
     (&["show", "--"], "Err(Bad { at: 2 })"),
     (&["show", "--flat"], "Err(Bad { at: 1 })"),
     // words that are not ASCII, and empty words

@@ -10,6 +10,7 @@ use audit_rules::{WordRow, find, word_table};
 #[derive(Clone, Copy, Debug, PartialEq, Eq)]
 pub(crate) enum Verb {
     Find,
+    Insert,
     Ls,
     Mounts,
     Recipients,
@@ -27,8 +28,9 @@ pub(crate) struct Form {
 }
 
 /// The words of the commands.
-const COMMANDS: [WordRow; 6] = word_table![
+const COMMANDS: [WordRow; 7] = word_table![
     b"find" => 0,
+    b"insert" => 5,
     b"list" => 1,
     b"ls" => 1,
     b"mounts" => 3,
@@ -46,6 +48,7 @@ fn verb_with(code: u16) -> Option<Verb>
         2 => Some(Verb::Show),
         3 => Some(Verb::Mounts),
         4 => Some(Verb::Recipients),
+        5 => Some(Verb::Insert),
         _ => None,
     }
 }
@@ -70,6 +73,12 @@ pub(crate) fn form_of(verb: Verb) -> Form
             least: 1,
             most: 1,
             flags: none,
+            has_subcommands: false,
+        },
+        Verb::Insert => Form {
+            least: 1,
+            most: 1,
+            flags: none.with(Flag::Force).with(Flag::Multi),
             has_subcommands: false,
         },
         Verb::Ls => Form {

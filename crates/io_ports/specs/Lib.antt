@@ -1,2 +1,4 @@
 pub mod Sink
 pub mod Kept
+pub mod Source
+pub mod Input

@@ -1,0 +1,55 @@
+-- What is read of a source: all of it, or a line.
+use Rattle.std.specs.Prelude.{ℕ, ◌+◌, ◌≡◌, ◌≢◌, ◌⊎◌, All, ◌<◌, ◌≤◌, ◌++◌, ◌∷◌, [], length, drop, Option, None, Some, Result, Ok, Err, Vec}
+use Rattle.gopass_base.specs.Text.{Text}
+use Rattle.gopass_base.specs.Lines.{cut_at}
+use Rattle.io_ports.specs.Source.{Came}
+use Rattle.io_ports.specs.declared.input.InputFault.{InputFault}
+use Rattle.io_ports.specs.declared.input.InputFault.TheVariants.{Failed, Long, NoMemory}
+
+-- some bytes came, at most so many
+abbrev pub CameSome : ℕ → Text → Text → Type 0
+CameSome most before after = (bytes : Text) × (length bytes ≤ most) × Came bytes before after
+
+-- what is read of all that is left, which is at most `max` bytes; else at most one buffer of 4,096 bytes comes beyond them
+abbrev pub ReadsAll : {Z : Type 0} → ℕ → Result (Vec ℕ Z) InputFault → Text → Text → Type 0
+ReadsAll max (Ok bytes) before after = (bytes.items ≡ before) × (length before ≤ max) × (after ≡ [])
+ReadsAll max (Err Long) before after = (max < length before) × CameSome (max + 4096) before after
+ReadsAll max (Err Failed) before after = CameSome max before after
+ReadsAll max (Err NoMemory) before after = CameSome max before after
+
+abbrev pub content_before : Text → Option (Text × Text) → Text
+content_before text None = text
+content_before text (Some cut) = cut.0
+
+-- what the first line of a text says: the bytes before the first LF, or all where there is none
+abbrev pub content_of : Text → Text
+content_of text = content_before text (cut_at 10 text)
+
+abbrev pub line_before : Text → Option (Text × Text) → Text × Text
+line_before text None = (text, [])
+line_before text (Some cut) = (cut.0 ++ 10 ∷ [], cut.1)
+
+-- the first line of a text, with its LF where it has one, and what stands behind it
+abbrev pub first_line : Text → Text × Text
+first_line text = line_before text (cut_at 10 text)
+
+-- no byte is an LF
+abbrev pub HasNoLf : Text → Type 0
+HasNoLf bytes = All (λ b. b ≢ 10) bytes
+
+-- a line stands first in a text, and this behind it: it ends with its one LF, or has none where nothing is behind it
+pub record StandsFirst (line rest text : Text) : Type 0 where
+  pub whole : text ≡ line ++ rest
+  pub ends : ((says : Text) × HasNoLf says × (line ≡ says ++ 10 ∷ [])) ⊎ (HasNoLf line × (rest ≡ []))
+
+-- one line, which says at most `max` bytes
+pub record IsLine (max : ℕ) (line : Text) : Type 0 where
+  pub one : first_line line ≡ (line, [])
+  pub short : length (content_of line) ≤ max
+
+-- what is read of a line, which says at most `max` bytes; nothing behind the line comes, and of a longer one just one byte beyond them
+abbrev pub ReadsLine : {Z : Type 0} → ℕ → Result (Vec ℕ Z) InputFault → Text → Text → Type 0
+ReadsLine max (Ok line) before after = (first_line before ≡ (line.items, after)) × (length (content_of before) ≤ max)
+ReadsLine max (Err Long) before after = (max < length (content_of before)) × (after ≡ drop (max + 1) before)
+ReadsLine max (Err Failed) before after = CameSome (length (content_of before)) before after
+ReadsLine max (Err NoMemory) before after = CameSome (length (first_line before).0) before after
