@@ -1,5 +1,5 @@
 -- What a store found agrees with each state that its files stand for.
-use Rattle.std.proofs.Common.{◌≡◌, Bool, true, false, ◌&&◌, T, List, [], ◌∷◌, Option, Some, None, refl, ap, sym, ◌∙◌, subst}
+use Rattle.std.proofs.Common.{◌≡◌, ℕ, Bool, true, false, ◌&&◌, T, List, [], ◌∷◌, Option, Some, None, refl, ap, sym, ◌∙◌, subst}
 use Rattle.std.proofs.Math.Logic.{∥∥₁_elim}
 use Rattle.std.specs.Prelude.{◌↔◌, Contains, IsTrue, is_some, map as each}
 use Rattle.std.specs.Coded.{Coded, Coded-set, code_by, coded×, coded_list, coded_bool, coded_ℕ}
@@ -18,10 +18,13 @@ use Rattle.std.proofs.lemmas.Map.Lookups.{exact_bytes}
 use Rattle.gopass_base.specs.Text.{Text}
 use Rattle.mount_table.specs.Names.{IsName}
 use Rattle.mount_table.specs.FaultOf.{name_fault}
-use Rattle.mount_table.specs.Mounts.{IsTable, root_of}
+use Rattle.mount_table.specs.Mounts.{IsMountOf, IsTable, root_of}
 use Rattle.mount_table.specs.declared.name.BadName.{BadName}
 use Rattle.mount_table.proofs.FaultOfLemmas.{name_none, none_name}
 use Rattle.mount_table.specs.declared.mounts.Row.{Row}
+use Rattle.mount_table.specs.MountOf.{mount_of}
+use Rattle.mount_table.proofs.MountLemmas.{one_row}
+use Rattle.mount_table.proofs.MountOfLemmas.{mount_computed}
 use Rattle.disk_model.specs.Files.{Files}
 use Rattle.cipher_port.specs.Tool.{Opens}
 use Rattle.store_core.specs.declared.opening.Found.{Found}
@@ -30,7 +33,7 @@ use Rattle.store_core.specs.State.{Cell, State, TextMap, StandsFor, AreMounts, m
 use Rattle.store_core.specs.Opening.{IsFound}
 use Rattle.store_core.proofs.OpeningLemmas.{table_of}
 use Rattle.store_core.proofs.StateLemmas.{one_state}
-use Rattle.store_core.proofs.StandsLemmas.{found_state, found_stands, found_keys, found_mounts, found_rules}
+use Rattle.store_core.proofs.StandsLemmas.{found_state, found_stands, found_keys, found_mounts, found_rules, found_sizes}
 use Rattle.store_core.proofs.TableLemmas.{equal}
 
 row_code : Coded Row
@@ -51,6 +54,14 @@ module _ (opens : Opens) (root : Text) (files : Files) (found : Found) (state : 
   -- and its rules
   pub rules_agree : state.rules ≡ found.rules
   rules_agree = ∥∥₁_elim is (Coded-set (map.code (coded_list coded_ℕ) (coded_list (coded_list coded_ℕ))) state.rules found.rules) (λ here. ap (λ (s : State). s.rules) (state_is here) ∙ found_rules opens root files found here.table here)
+
+  -- and the numbers of files below the directories of its mounts
+  pub sizes_agree : state.sizes ≡ found.counts.items
+  sizes_agree = ∥∥₁_elim is (Coded-set (coded_list coded_ℕ) state.sizes found.counts.items) (λ here. ap (λ (s : State). s.sizes) (state_is here) ∙ found_sizes opens root files found here.table here)
+
+  -- the row of a mount is the one that is computed
+  pub row_agrees : (name : Text) (row : ℕ) → IsMountOf found.mounts name row → row ≡ mount_of found.mounts name
+  row_agrees name row mount = ∥∥₁_elim is (Coded-set coded_ℕ row (mount_of found.mounts name)) (λ here. one_row root name found.mounts row (mount_of found.mounts name) here.table mount (mount_computed root name found.mounts here.table))
 
   pub table_agrees : IsTable (root_of found.mounts) found.mounts → IsTable root found.mounts
   table_agrees table = table_of root (files (mounts_path root)) found.mounts (subst (λ (mounts : List Row). AreMounts root (files (mounts_path root)) mounts) mounts_agree stands.mounts_are) table

@@ -19,3 +19,9 @@ pub mod HoldsLemmas
 pub mod AgreeLemmas
 pub mod PerformLemmas
 pub mod ShowLemmas
+pub mod PlaceLemmas
+pub mod PutLemmas
+pub mod GrowLemmas
+pub mod InsertLemmas
+pub mod InsertFacts
+pub mod KeptLemmas

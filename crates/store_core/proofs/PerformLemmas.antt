@@ -1,5 +1,5 @@
 -- Commands that change nothing, and want of memory behind any command.
-use Rattle.std.proofs.Common.{◌≡◌, ℕ, ◌+◌, ◌≤◌, List, [], length, take, Option, None, Some, refl, sym, ap, subst, arith}
+use Rattle.std.proofs.Common.{◌≡◌, inl, inr, ⊎_elim, ℕ, ◌+◌, ◌≤◌, true, List, [], length, take, Option, None, Some, refl, sym, ap, subst, arith}
 use Rattle.std.proofs.lemmas.List.{take_all}
 use Rattle.gopass_base.specs.Text.{Text}
 use Rattle.gopass_base.specs.Faults.{Rose}
@@ -7,20 +7,29 @@ use Rattle.disk_model.specs.Disk.{Rests}
 use Rattle.disk_model.specs.Files.{Files}
 use Rattle.disk_model.proofs.RunLemmas.{rests_none}
 use Rattle.cipher_port.specs.Tool.{Opens}
+use Rattle.pending_journal.specs.Redo.{IsAtRest, StandsFor as StandsForFiles}
+use Rattle.pending_journal.specs.Service.{is_service, journal_path}
+use Rattle.pending_journal.proofs.ServiceLemmas.{service_journal}
+use Rattle.pending_journal.proofs.RedoLemmas.{stands_none, without_none}
 use Rattle.store_core.specs.State.{State, StandsFor}
 use Rattle.store_core.specs.Said.{Said, Plan}
 use Rattle.store_core.specs.Events.{Events, calm, refusing, Cause, TheDisk, Memory, Stop}
 use Rattle.store_core.specs.Moment.{Faults, Moment}
-use Rattle.store_core.specs.Performs.{IsTied, Goes, Performs, cut, answered, stop_said}
+use Rattle.store_core.specs.Performs.{IsTied, Goes, LeftFor, Performs, cut, answered, stop_said}
 
--- nothing of the store is changed, and no count of faults fell
-pub record Still (old new : Moment) : Type 0 where
+-- files without any of the vault's own stand for themselves
+pub stands_at_rest : (root : Text) (files : Files) → ((q : Text) → is_service root q ≡ true → files q ≡ None) → StandsForFiles root files files
+stands_at_rest root files none = stands_none root files files (none (journal_path root) (service_journal root)) (sym (without_none root files none))
+
+-- nothing of the store is changed, whose files are the only image, and no count of faults fell
+pub record Still (root : Text) (old new : Moment) : Type 0 where
+  pub at_rest : IsAtRest root old.view
   pub rests : Rests old.view new.view
   pub commits : new.commits ≡ old.commits
   pub tools_later : old.faults.tools ≤ new.faults.tools
 
-pub still_same : (m : Moment) → Still m m
-still_same m = record { rests = rests_none m.view; commits = refl; tools_later = omega arith }
+pub still_same : (root : Text) (m : Moment) → IsAtRest root m.view → Still root m m
+still_same root m rest = record { at_rest = rest; rests = rests_none m.view; commits = refl; tools_later = omega arith }
 
 cause_in : Option Stop → Cause
 cause_in None = Memory
@@ -47,12 +56,26 @@ refusing_tied old new name rose = record { tools = omega (arith, rose); disk = �
 pub stopped_tied : (old new : Faults) (cause : Cause) → old.tools ≤ new.tools → (cause ≡ TheDisk → Rose old.disk new.disk) → IsTied old new calm (Some (record { cause = cause; commits = 0 }))
 stopped_tied old new cause later tie = record { tools = omega (arith, later); disk = λ n e. tie (same_cause cause 0 n e) }
 
-module _ (opens : Opens) (root : Text) (start : State) (plan : Events → Plan) (old new : Moment) (s : StandsFor opens root old.view.files start) (still : Still old new) where
+module _ (opens : Opens) (root : Text) (start : State) (plan : Events → Plan) (old new : Moment) (s : StandsFor opens root old.view.files start) (still : Still root old new) where
+  -- each image that was there stands for the start
+  start_left : (m : Files) → old.view.images m → LeftFor opens root start m
+  start_left m im = (old.view.files, subst (λ (f : Files). StandsForFiles root f old.view.files) (sym (still.at_rest.only m im)) (stands_at_rest root old.view.files still.at_rest.none), s)
+
+  -- and so does each that is there now
+  still_left : (m : Files) → new.view.images m → LeftFor opens root start m
+  still_left m im = start_left m (still.rests.only m im)
+
   goes_still : (states : List State) → Goes opens root start states 0 old new
   goes_still states = record {
     within = omega arith;
     counted = record { least = omega (arith, still.commits); most = omega (arith, still.commits) };
     state = λ free. subst (λ (f : Files). StandsFor opens root f start) (sym still.rests.files) s;
+    any_moment = record {
+      later = still.rests.time.later;
+      now = λ m im. (0, omega arith, still_left m im);
+      during = λ t m le left. ⊎_elim (λ was. inl was) (λ im. inr (0, omega arith, still_left m im)) (still.rests.time.only t m le left);
+    };
+    at_end = λ m im. inl (still_left m im);
     still = λ e free. still.rests;
   }
 

@@ -20,7 +20,7 @@ use Rattle.pending_journal.specs.Service.{without_service}
 use Rattle.cipher_port.specs.Tool.{Content, Opens, Ring}
 use Rattle.cipher_port.specs.declared.cipher.UnsealFault.TheVariants as tool
 use Rattle.store_core.specs.declared.refusal.Refusal.{Refusal}
-use Rattle.store_core.specs.declared.refusal.Refusal.TheVariants.{NotFound, IsFolder, NoKey, NotSealed, Tool, Disk, NoMemory}
+use Rattle.store_core.specs.declared.refusal.Refusal.TheVariants.{NotFound, IsFolder, Exists, NoRule, Full, UnknownId, NoKey, NotSealed, Tool, Disk, NoMemory}
 use Rattle.store_core.specs.declared.opening.Found.{Found}
 use Rattle.store_core.specs.Opening.{IsFound}
 use Rattle.store_core.specs.Places.{secret_path}
@@ -54,6 +54,10 @@ not_sealed_shows name ring (Tool other) same content is = absurd same
 not_sealed_shows name ring NotFound same content is = absurd same
 not_sealed_shows name ring IsFolder same content is = absurd same
 not_sealed_shows name ring Disk same content is = absurd same
+not_sealed_shows name ring Exists same content is = absurd same
+not_sealed_shows name ring NoRule same content is = absurd same
+not_sealed_shows name ring (Full limit) same content is = absurd same
+not_sealed_shows name ring (UnknownId id) same content is = absurd same
 
 -- and no fault of the tool
 pub not_sealed_no_tool : (name : Text) (r : Refusal) → IsRefusalBy name tool.NotSealed r → (other : Text) → ◌≡◌ {A = Result (Vec ℕ Global) Refusal} (Err r) (Err (Tool other)) → ⊥
@@ -64,6 +68,10 @@ not_sealed_no_tool name (Tool n) same other e = same
 not_sealed_no_tool name NotFound same other e = same
 not_sealed_no_tool name IsFolder same other e = same
 not_sealed_no_tool name Disk same other e = same
+not_sealed_no_tool name Exists same other e = same
+not_sealed_no_tool name NoRule same other e = same
+not_sealed_no_tool name (Full limit) same other e = same
+not_sealed_no_tool name (UnknownId id) same other e = same
 
 -- the vault shows the file of a secret
 secret_in_vault : (root : Text) (files : Files) (mounts : List Row) (name path : Text) → IsTable root mounts → IsName name → IsFileOf mounts name path → without_service root files path ≡ files (secret_path mounts name)
@@ -79,7 +87,7 @@ vault_file opens root files found state is stands name mounts path same table go
     let here = table_agrees opens root files found state is stands (subst (λ (rows : List Row). IsTable (root_of rows) rows) same table) in
     secret_in_vault root files found.mounts name path here good (subst (λ (rows : List Row). IsFileOf rows name path) same file) ∙ ap (λ rows. files (secret_path rows name)) (sym own)
 
-module _ (opens : Opens) (root : Text) (ring : Ring) (name : Text) (state : State) (old new : Moment) (stands : StandsFor opens root old.view.files state) (still : Still old new) where
+module _ (opens : Opens) (root : Text) (ring : Ring) (name : Text) (state : State) (old new : Moment) (stands : StandsFor opens root old.view.files state) (still : Still root old new) where
   row_plan : (events : Events) (row : Option Cell) → map.get state.rows name ≡ row → plan_show ring name state events ≡ show_row ring name (names_of state) events row
   row_plan events row is = ap (show_row ring name (names_of state) events) is
 
@@ -132,3 +140,7 @@ module _ (opens : Opens) (root : Text) (ring : Ring) (name : Text) (state : Stat
       show_given (Err NotFound) is rose few = absurd is
       show_given (Err IsFolder) is rose few = absurd is
       show_given (Err Disk) is rose few = absurd is
+      show_given (Err Exists) is rose few = absurd is
+      show_given (Err NoRule) is rose few = absurd is
+      show_given (Err (Full limit)) is rose few = absurd is
+      show_given (Err (UnknownId id)) is rose few = absurd is

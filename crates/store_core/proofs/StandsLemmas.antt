@@ -119,6 +119,7 @@ module _ (opens : Opens) (root : Text) (files : Files) (found : Found) (table : 
     rules = found.rules;
     rows = map.from_sorted (tabled found.seen.names.items cell_at);
     templates = map.from_sorted (tabled found.seen.templates.items bytes_at);
+    sizes = found.counts.items;
     rest = rest_at;
   }
 
@@ -255,6 +256,7 @@ module _ (opens : Opens) (root : Text) (files : Files) (found : Found) (table : 
     no_row = λ name other. map.get-from_sorted (slice_cmp nat_cmp) (tabled found.seen.names.items cell_at) name (sorted_tabled found.seen.names.items cell_at is.rising.names) ∙ no_row_is name other;
     template = λ folder k own. map.get-from_sorted (slice_cmp nat_cmp) (tabled found.seen.templates.items bytes_at) folder (sorted_tabled found.seen.templates.items bytes_at is.rising.templates) ∙ template_is folder k own;
     no_template = λ folder other. map.get-from_sorted (slice_cmp nat_cmp) (tabled found.seen.templates.items bytes_at) folder (sorted_tabled found.seen.templates.items bytes_at is.rising.templates) ∙ no_template_is folder other;
+    sizes_are = record { as_many = is.survey.as_many; each = is.survey.each };
     owned = owned_is;
     outside = outside_is;
     other = other_is;
@@ -271,3 +273,7 @@ module _ (opens : Opens) (root : Text) (files : Files) (found : Found) (table : 
   pub found_rules : found_state.rules ≡ found.rules
   unfolding found_state
   found_rules = refl
+
+  pub found_sizes : found_state.sizes ≡ found.counts.items
+  unfolding found_state
+  found_sizes = refl

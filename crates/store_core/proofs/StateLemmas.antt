@@ -1,5 +1,5 @@
 -- The state is determined by the files.
-use Rattle.std.proofs.Common.{◌≡◌, ℕ, Bool, true, false, ◌&&◌, List, [], Option, Some, None, bytes_eq, refl, ap, sym, ◌∙◌, subst}
+use Rattle.std.proofs.Common.{◌≡◌, ◌<◌, ℕ, zero, suc, Bool, true, false, ◌&&◌, List, [], ◌∷◌, length, slice_index_or, arith, Option, Some, None, bytes_eq, refl, ap, sym, ◌∙◌, subst}
 use Rattle.std.proofs.Math.Path.{fun_ext}
 use Rattle.std.specs.Prelude.{option_map}
 use Rattle.std.specs.Bool.{Decides}
@@ -19,7 +19,8 @@ use Rattle.recipient_files.specs.Ids.{Ids}
 use Rattle.recipient_files.proofs.SetLemmas.{one_set}
 use Rattle.store_core.specs.Places.{IsFolderOf, rule_path, secret_path, template_path}
 use Rattle.store_core.specs.RuleFiles.{IsRuleOf}
-use Rattle.store_core.specs.State.{Cell, Sealed, Broken, State, AreMounts, IsOwned, StandsFor, cell_of, is_outside, mounts_path}
+use Rattle.store_core.specs.Survey.{IsCountOf}
+use Rattle.store_core.specs.State.{Cell, Sealed, Broken, State, AreMounts, AreSizes, IsOwned, StandsFor, cell_of, is_outside, mounts_path}
 
 -- ---- values that tests tell apart
 
@@ -120,11 +121,32 @@ one_rest opens root files a b same h k = fun_ext (λ path. by path (is_outside r
     by path true out = h.outside path out ∙ sym (k.outside path out)
     by path false out = inside path out
 
+-- two listings of one directory are the same
+one_count : (root : Text) (files : Files) (mounts : List Row) (k m n : ℕ) → IsCountOf root files mounts k m → IsCountOf root files mounts k n → m ≡ n
+one_count root files mounts k m n (xs, a, is) (ys, b, is') = is ∙ (ap length (one_set xs ys a.listing.rising b.listing.rising (λ path. (λ has. (b.listing.each path).1 ((a.listing.each path).0 has), λ has. (a.listing.each path).1 ((b.listing.each path).0 has)))) ∙ sym is')
+
+same_list : (xs ys : List ℕ) → length xs ≡ length ys → ((k : ℕ) → k < length xs → slice_index_or xs k 0 ≡ slice_index_or ys k 0) → xs ≡ ys
+same_list [] [] long each = refl
+same_list [] (y ∷ ys) long each = absurd (omega (arith, long))
+same_list (x ∷ xs) [] long each = absurd (omega (arith, long))
+same_list (x ∷ xs) (y ∷ ys) long each =
+    let first : x ≡ y = each 0 (omega arith) in
+    let rest : xs ≡ ys = same_list xs ys (omega (arith, long)) (λ k lt. each (suc k) (omega (arith, lt))) in
+    λ i. first i ∷ rest i
+
+one_sizes : (opens : Opens) (root : Text) (files : Files) (a b : State) → a.mounts ≡ b.mounts → StandsFor opens root files a → StandsFor opens root files b → a.sizes ≡ b.sizes
+one_sizes opens root files a b same h k =
+    let theirs = subst (λ (mounts : List Row). AreSizes root files mounts b.sizes) (sym same) k.sizes_are in
+    same_list a.sizes b.sizes (h.sizes_are.as_many ∙ sym theirs.as_many) (λ n lt.
+    (let inside : n < length a.mounts = omega (arith, lt, h.sizes_are.as_many) in
+    one_count root files a.mounts n (slice_index_or a.sizes n 0) (slice_index_or b.sizes n 0) (h.sizes_are.each n inside) (theirs.each n inside)))
+
 pub one_state : (opens : Opens) (root : Text) (files : Files) (a b : State) → StandsFor opens root files a → StandsFor opens root files b → a ≡ b
 one_state opens root files a b h k =
     let mounts = one_table root (files (mounts_path root)) a.mounts b.mounts h.mounts_are k.mounts_are in
     let rules = one_rules opens root files a b mounts h k in
     let rows = one_rows opens root files a b mounts h k in
     let templates = one_templates opens root files a b mounts h k in
+    let sizes = one_sizes opens root files a b mounts h k in
     let rest = one_rest opens root files a b mounts h k in
-    λ i. record { mounts = mounts i; rules = rules i; rows = rows i; templates = templates i; rest = rest i }
+    λ i. record { mounts = mounts i; rules = rules i; rows = rows i; templates = templates i; sizes = sizes i; rest = rest i }

@@ -29,6 +29,7 @@ pub record HasCauses (old new : Faults) (status : ℕ) : Type 0 where
 pub record Keeps {D : Type 0} {G : Ghosts D} (most : ℕ) (old new : Store D G) (before after : Tools) (status : ℕ) : Type 0 where
   pub causes : HasCauses (moment_of old before).faults (moment_of new after).faults status
   pub calls : after.calls ≤ before.calls + most
+  pub no_input : status ≢ 15
   pub free : status ≢ 12 → status ≢ 14 → IsFalse new.vault.stuck
   pub root : new.vault.root ≡ old.vault.root
   pub rings : (ring : Ring) → before.have ring → after.have ring

@@ -18,3 +18,7 @@ pub mod Does
 pub mod Refusals
 pub mod Show
 pub mod Unsealing
+pub mod Insert
+pub mod Grown
+pub mod Inserting
+pub mod Kept

@@ -1,8 +1,11 @@
 -- A command does what is planned.
-use Rattle.std.specs.Prelude.{◌≡◌, ℕ, zero, suc, ◌+◌, ◌-◌, ◌^◌, ◌≤◌, min, length, take, codes, List, [], ◌∷◌, Option, None, Some, IsFalse}
+use Rattle.std.specs.Prelude.{◌≡◌, ◌⊎◌, ℕ, zero, suc, ◌+◌, ◌-◌, ◌^◌, ◌<◌, ◌≤◌, min, length, take, codes, List, [], ◌∷◌, Option, None, Some, IsFalse}
 use Rattle.gopass_base.specs.Text.{Text}
 use Rattle.gopass_base.specs.Faults.{Rose}
+use Rattle.disk_model.specs.Files.{Files}
 use Rattle.disk_model.specs.Disk.{Rests}
+use Rattle.disk_model.specs.Runs.{Leaves}
+use Rattle.pending_journal.specs.Redo.{StandsFor as StandsForFiles}
 use Rattle.cipher_port.specs.Tool.{Opens}
 use Rattle.store_core.specs.State.{State, StandsFor}
 use Rattle.store_core.specs.Said.{Said, Plan, refused, unsaid}
@@ -44,12 +47,26 @@ state_at start states zero = start
 state_at start [] (suc n) = start
 state_at start (s ∷ states) (suc n) = state_at s states n
 
--- the store goes through these states, and n commits are answered: the files are those of the n-th state, and without a
--- commit nothing changes
+-- files that a crash left stand for the state: the files for which they stand do
+abbrev pub LeftFor : Opens → Text → State → Files → Type 0
+LeftFor opens root state m = (after : Files) × StandsForFiles root m after × StandsFor opens root after state
+
+-- for one of the states passed, from the start on
+abbrev pub IsPassed : Opens → Text → State → List State → Files → Type 0
+IsPassed opens root start states m = (n : ℕ) × (n ≤ length states) × LeftFor opens root (state_at start states n) m
+
+-- for the n-th state, or for the next
+abbrev pub IsReached : Opens → Text → State → List State → ℕ → Files → Type 0
+IsReached opens root start states n m = LeftFor opens root (state_at start states n) m ⊎ ((n < length states) × LeftFor opens root (state_at start states (n + 1)) m)
+
+-- the store goes through these states, and n commits are answered: the files are those of the n-th state. What a crash leaves
+-- at any moment stands for a state passed, and at the end for the n-th or the next. Without a commit nothing changes
 pub record Goes (opens : Opens) (root : Text) (start : State) (states : List State) (n : ℕ) (old new : Moment) : Type 0 where
   pub within : n ≤ length states
   pub counted : Counted old.commits n new.commits
   pub state : IsFalse new.stuck → StandsFor opens root new.view.files (state_at start states n)
+  pub any_moment : Leaves (IsPassed opens root start states) old.view new.view
+  pub at_end : (m : Files) → new.view.images m → IsReached opens root start states n m
   pub still : n ≡ 0 → IsFalse new.stuck → Rests old.view new.view
 
 -- the command does what is planned for some events, tied to what happened, up to a stop

@@ -4,9 +4,9 @@ use Rattle.gopass_base.specs.Text.{Text}
 use Rattle.disk_model.specs.declared.disk.DiskFault.{DiskFault}
 use Rattle.disk_model.specs.declared.disk.DiskFault.TheVariants.{Failed as DiskFailed, NoMemory as DiskNoMemory}
 use Rattle.store_core.specs.declared.refusal.Refusal.{Refusal}
-use Rattle.store_core.specs.declared.refusal.Refusal.TheVariants.{NotFound, IsFolder, NoKey, NotSealed, Tool, Disk, NoMemory}
+use Rattle.store_core.specs.declared.refusal.Refusal.TheVariants.{NotFound, IsFolder, Exists, NoRule, Full, UnknownId, NoKey, NotSealed, Tool, Disk, NoMemory}
 use Rattle.store_core.specs.Said.{Said, granted, refused, unsaid}
-use Rattle.store_core.specs.Texts.{not_in_the_store, is_a_folder, no_key, not_sealed, tool_failed}
+use Rattle.store_core.specs.Texts.{not_in_the_store, is_a_folder, is_there_already, no_rule_for, not_known, limit_passed, no_key, not_sealed, tool_failed}
 
 -- what a fault of the disk makes a command answer
 abbrev pub refusal_by_disk : DiskFault → Refusal
@@ -16,6 +16,10 @@ refusal_by_disk DiskNoMemory = NoMemory
 abbrev pub status_of : Refusal → ℕ
 status_of NotFound = 3
 status_of IsFolder = 3
+status_of Exists = 4
+status_of NoRule = 7
+status_of (UnknownId id) = 9
+status_of (Full limit) = 10
 status_of (NoKey name) = 8
 status_of (NotSealed name) = 8
 status_of (Tool name) = 11
@@ -26,6 +30,10 @@ status_of NoMemory = 14
 abbrev pub text_of : Text → Refusal → Text
 text_of asked NotFound = not_in_the_store asked
 text_of asked IsFolder = is_a_folder asked
+text_of asked Exists = is_there_already asked
+text_of asked NoRule = no_rule_for asked
+text_of asked (UnknownId id) = not_known id
+text_of asked (Full limit) = limit_passed limit
 text_of asked (NoKey name) = no_key name
 text_of asked (NotSealed name) = not_sealed name
 text_of asked (Tool name) = tool_failed name

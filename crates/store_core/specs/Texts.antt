@@ -29,6 +29,15 @@ not_sealed name = name ++ codes ": not sealed"
 abbrev pub tool_failed : Text → Text
 tool_failed name = name ++ codes ": the tool failed"
 
+abbrev pub is_there_already : Text → Text
+is_there_already name = name ++ codes " is there already"
+
+abbrev pub no_rule_for : Text → Text
+no_rule_for name = codes "no rule for " ++ name
+
+abbrev pub not_known : Text → Text
+not_known id = id ++ codes " is not known to the tool"
+
 -- a number that is passed, with its greatest value
 abbrev pub limit_passed : Limit → Text
 limit_passed Mounts = codes "limit 64 mounts"

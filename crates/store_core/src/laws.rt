@@ -1,4 +1,4 @@
-//! What the opening of a store means.
+//! What the opening of a store means, and what `insert` keeps.
 
 ghost use Rattle.std.specs.Prelude.{◌≡◌, ◌↔◌, Contains};
 ghost use Rattle.std.specs.FinMap as map;
@@ -6,11 +6,16 @@ ghost use Rattle.gopass_base.specs.Text.{Text};
 ghost use Rattle.mount_table.specs.Names.{IsName};
 ghost use Rattle.disk_model.specs.Files.{Files};
 ghost use Rattle.disk_model.specs.Listing.{IsThere};
-ghost use Rattle.cipher_port.specs.Tool.{Opens};
+ghost use Rattle.cipher_port.specs.Tool.{Opens, Ring};
 ghost use Rattle.store_core.specs.Places.{secret_path};
 ghost use Rattle.store_core.specs.State.{State, StandsFor};
 ghost use Rattle.store_core.specs.Opening.{IsFound};
+ghost use Rattle.store_core.specs.Events.{Events};
+ghost use Rattle.store_core.specs.Insert.{plan_insert};
+ghost use Rattle.store_core.specs.Kept.{IsKept, AreAllKept};
 ghost use Rattle.store_core.specs.declared.opening.Found.{Found};
+
+use mount_table::Name;
 
 /// The names that an opening finds are just those of the secrets whose files are there.
 pub fn names_of_secrets()
@@ -23,4 +28,9 @@ pub fn names_of_secrets()
 pub fn state_of_store()
     ensures { (opens : Opens) (root : Text) (files : Files) (found : Found) → IsFound root files found
         → (state : State) × StandsFor opens root files state × (state.mounts ≡ found.mounts) × (state.rules ≡ found.rules) × (map.keys state.rows ≡ found.seen.names.items) }
+{}
+
+/// `insert` keeps each secret made for exactly the ids that govern it.
+pub fn insert_keeps(name: &Name, body: &[u8], force: bool)
+    ensures { (ring : Ring) (state : State) (events : Events) → IsKept state → AreAllKept (plan_insert ring name.now body.now force state events).states }
 {}

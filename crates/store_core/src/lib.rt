@@ -3,6 +3,8 @@
 
 mod fault;
 mod folder_file;
+mod grown;
+mod insert;
 mod kind;
 mod laws;
 mod open_store;
@@ -17,7 +19,7 @@ mod store;
 mod tree;
 
 pub use fault::{Limit, StoreFault};
-pub use laws::{names_of_secrets, state_of_store};
+pub use laws::{insert_keeps, names_of_secrets, state_of_store};
 pub use open_store::StoreOpened;
 pub use refusal::Refusal;
 pub use state::one_state;

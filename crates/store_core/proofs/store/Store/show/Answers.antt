@@ -25,14 +25,14 @@ returns-then-not-is_among-clause-planned g c told tells ring have start s =
     let out : c.is_among.result ≡ false = search rules in
     let same : c.why_missing.result ≡ why_missing c.args.name.now (names_of start) = c.why_missing.ensures ∙ ap (why_missing c.args.name.now) (c.names-then-not-is_among.ensures ∙ sym keys) in
     subst (λ (r : Refusal). Performs opens self.vault.root (plan_show ring c.args.name.now start) start now now (refusal_said c.args.name.now r)) (sym same)
-    (show_missing opens self.vault.root ring c.args.name.now start now now s (still_same now) (λ has. (let t : true ≡ false = sym (among.1 has) ∙ out in cc)) (omega arith))
+    (show_missing opens self.vault.root ring c.args.name.now start now now s (still_same self.vault.root now (self.vault.at_rest c.requires.free told)) (λ has. (let t : true ≡ false = sym (among.1 has) ∙ out in cc)) (omega arith))
 
 pub returns-in_err-path-clause-planned : goal.returns-in_err-path-clause-planned
 returns-in_err-path-clause-planned g c told tells ring have start s =
     let self = c.args.self.now in
     let now = moment_of self (one_tool g.C.Cipher.meaning c.args.tool.now) in
     let p = err_from_is_err_and c.from_residual.result c.from_residual.ensures.1 in
-    rw (p.1, p.2) (show_no_memory g.C.Cipher.meaning.opens self.vault.root ring c.args.name.now start now now s (still_same now) (omega arith))
+    rw (p.1, p.2) (show_no_memory g.C.Cipher.meaning.opens self.vault.root ring c.args.name.now start now now s (still_same self.vault.root now (self.vault.at_rest c.requires.free told)) (omega arith))
 
 pub returns-in_err-sealed-clause-planned : goal.returns-in_err-sealed-clause-planned
 returns-in_err-sealed-clause-planned g c told tells ring have start s =
@@ -41,7 +41,7 @@ returns-in_err-sealed-clause-planned g c told tells ring have start s =
     let new = moment_of c.read_at.new.self (one_tool g.C.Cipher.meaning c.args.tool.now) in
     let p = err_from_is_err_and c.from_residual-in_err-sealed.result c.from_residual-in_err-sealed.ensures.1 in
     rw (p.1, p.2) (show_fault g.C.Cipher.meaning.opens self.vault.root ring c.args.name.now start old new s
-    (record { rests = c.read_at.ensures.rests told; commits = c.read_at.ensures.same.vault.commits; tools_later = omega arith })
+    (record { at_rest = self.vault.at_rest c.requires.free told; rests = c.read_at.ensures.rests told; commits = c.read_at.ensures.same.vault.commits; tools_later = omega arith })
     c.in_err-sealed.field-0.0 (λ e. c.in_err-sealed.ensures.cause.failed (search rules)) (omega arith))
 
 pub returns-in-Some-clause-planned : goal.returns-in-Some-clause-planned
@@ -53,7 +53,7 @@ returns-in-Some-clause-planned g c told tells ring have start s =
     let opens = g.C.Cipher.meaning.opens in
     let old = moment_of self (one_tool g.C.Cipher.meaning c.args.tool.now) in
     let new = moment_of c.read_at.new.self (one_tool g.C.Cipher.meaning c.unseal.new.tool) in
-    let still : Still old new = record { rests = c.read_at.ensures.rests told; commits = c.read_at.ensures.same.vault.commits; tools_later = c.unseal.ensures.cause.later } in
+    let still : Still self.vault.root old new = record { at_rest = self.vault.at_rest c.requires.free told; rests = c.read_at.ensures.rests told; commits = c.read_at.ensures.same.vault.commits; tools_later = c.unseal.ensures.cause.later } in
     let agrees = self.agrees c.requires.free told in
     let among = among_keys start.rows c.names.result.now name c.is_among.result (keys_agree opens root files self.found start agrees s ∙ sym c.names.ensures) c.is_among.ensures in
     let there : c.is_among.result ≡ true = search rules in
@@ -73,7 +73,7 @@ returns-clause-planned g c told tells ring have start s =
     let opens = g.C.Cipher.meaning.opens in
     let old = moment_of self (one_tool g.C.Cipher.meaning c.args.tool.now) in
     let new = moment_of c.read_at.new.self (one_tool g.C.Cipher.meaning c.args.tool.now) in
-    let still : Still old new = record { rests = c.read_at.ensures.rests told; commits = c.read_at.ensures.same.vault.commits; tools_later = omega arith } in
+    let still : Still self.vault.root old new = record { at_rest = self.vault.at_rest c.requires.free told; rests = c.read_at.ensures.rests told; commits = c.read_at.ensures.same.vault.commits; tools_later = omega arith } in
     let agrees = self.agrees c.requires.free told in
     let among = among_keys start.rows c.names.result.now name c.is_among.result (keys_agree opens root files self.found start agrees s ∙ sym c.names.ensures) c.is_among.ensures in
     let there : c.is_among.result ≡ true = search rules in

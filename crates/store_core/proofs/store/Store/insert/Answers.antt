@@ -1,0 +1,237 @@
+use Rattle.std.proofs.Common.{rules, Global, ℕ, ◌≡◌, ◌≢◌, ◌+◌, ◌<◌, ◌≤◌, ◌&&◌, not, List, Bool, false, true, [], ◌∷◌, Some, None, Option, Ok, Err, Result, Vec, refl, sym, ◌∙◌, ap, subst, arith}
+use Rattle.std.specs.Prelude.{IsTrue, IsFalse, is_err, slice_index_or, length}
+use Rattle.std.proofs.lemmas.Result.{err_from_is_err_and}
+use Rattle.gopass_base.specs.Text.{Text}
+use Rattle.std.specs.FinMap as map
+use Rattle.mount_table.specs.Mounts.{IsTable, root_of}
+use Rattle.mount_table.specs.MountOf.{mount_of}
+use Rattle.mount_table.specs.declared.mounts.Row.{Row}
+use Rattle.disk_model.specs.Files.{Files, put}
+use Rattle.pending_journal.specs.Change.{changed}
+use Rattle.pending_journal.specs.declared.vault.CommitFault.{CommitFault}
+use Rattle.pending_journal.specs.declared.vault.CommitFault.TheVariants.{Stuck as CommitStuck, Disk as CommitDisk, NoMemory as CommitNoMemory}
+use Rattle.path_rules.specs.Governing.{governing_ids}
+use Rattle.recipient_files.specs.Ids.{Ids}
+use Rattle.cipher_port.specs.Tool.{Ring, made_of}
+use Rattle.store_core.specs.Moment.{Moment, moment_of, one_tool}
+use Rattle.store_core.specs.Opening.{IsFound}
+use Rattle.store_core.specs.Performs.{Performs}
+use Rattle.store_core.specs.Places.{secret_path}
+use Rattle.store_core.specs.State.{Sealed}
+use Rattle.store_core.specs.Insert.{plan_insert, is_there}
+use Rattle.store_core.specs.Inserting.{refusal_by_commit, IsTested, SealsBody, limit_by}
+use Rattle.store_core.specs.declared.refusal.Refusal.{Refusal}
+use Rattle.store_core.specs.declared.refusal.Refusal.TheVariants.{Tool, Disk, NoMemory}
+use Rattle.store_core.proofs.AgreeLemmas.{mounts_agree, table_agrees}
+use Rattle.store_core.proofs.PerformLemmas.{Still, still_same}
+use Rattle.store_core.proofs.InsertLemmas.{insert_no_memory_then, insert_done, insert_broken, rose_since, never_stuck}
+use Rattle.store_core.proofs.InsertFacts.{ids_are, there_is, way_is, limit_is, insert_unruled, insert_tested, insert_unsealed, change_puts, secret_file, sizes_inserted, taken_is_found, commit_keeps, room_by}
+use Rattle.store_core.proofs.store.Store.insert.Goals as goal
+
+pub returns-in_err-ids-clause-planned : goal.returns-in_err-ids-clause-planned
+returns-in_err-ids-clause-planned g c told tells ring have start s =
+    let self = c.args.self.now in
+    let root = self.vault.root in
+    let name = c.args.name.now in
+    let files = (g.D.Disk.meaning.view self.vault.disk).files in
+    let opens = g.C.Cipher.meaning.opens in
+    let now = moment_of self (one_tool g.C.Cipher.meaning c.args.tool.now) in
+    let p = err_from_is_err_and c.from_residual.result c.from_residual.ensures.1 in
+    rw (p.1, p.2) (insert_unruled opens root ring name c.args.body.now c.args.force start now now s (still_same root now (self.vault.at_rest c.requires.free told))
+    (governing_ids self.found.rules self.found.mounts name) (ids_are opens root files self.found start (self.agrees c.requires.free told) s name) c.in_err-ids.field-0.0 c.in_err-ids.ensures.none (omega arith))
+
+pub returns-in_err-test-clause-planned : goal.returns-in_err-test-clause-planned
+returns-in_err-test-clause-planned g c told tells ring have start s =
+    let self = c.args.self.now in
+    let root = self.vault.root in
+    let name = c.args.name.now in
+    let body = c.args.body.now in
+    let files = (g.D.Disk.meaning.view self.vault.disk).files in
+    let opens = g.C.Cipher.meaning.opens in
+    let now = moment_of self (one_tool g.C.Cipher.meaning c.args.tool.now) in
+    let is = self.agrees c.requires.free told in
+    let ruled = ids_are opens root files self.found start is s name ∙ c.in_ok-ids.ensures.rule in
+    let tested = c.in_err-test.ensures.tested in
+    let p = err_from_is_err_and c.from_residual-in_err-test.result c.from_residual-in_err-test.ensures.1 in
+    rw (p.1, p.2) (insert_tested opens root ring name body c.args.force start now now s (still_same root now (self.vault.at_rest c.requires.free told)) c.in_ok-ids.ids ruled
+    tested.there (limit_by body tested.there (length self.found.seen.names.items) (slice_index_or self.found.counts.items tested.row 0))
+    (way_is opens root files self.found start is s name body c.args.force _ tested) (limit_is opens root files self.found start is s name body c.args.force _ tested)
+    c.in_err-test.field-0.0 tested.may (omega arith))
+
+pub returns-in_err-sealed-clause-planned : goal.returns-in_err-sealed-clause-planned
+returns-in_err-sealed-clause-planned g c told tells ring have start s =
+    let self = c.args.self.now in
+    let root = self.vault.root in
+    let name = c.args.name.now in
+    let body = c.args.body.now in
+    let files = (g.D.Disk.meaning.view self.vault.disk).files in
+    let opens = g.C.Cipher.meaning.opens in
+    let old = moment_of self (one_tool g.C.Cipher.meaning c.args.tool.now) in
+    let new = moment_of self (one_tool g.C.Cipher.meaning c.seal_body.new.tool) in
+    let is = self.agrees c.requires.free told in
+    let ruled = ids_are opens root files self.found start is s name ∙ c.in_ok-ids.ensures.rule in
+    let tested = c.in_ok-test.ensures.tested in
+    let still : Still root old new = record { at_rest = self.vault.at_rest c.requires.free told; rests = (still_same root old (self.vault.at_rest c.requires.free told)).rests; commits = refl; tools_later = c.seal_body.ensures.cause.later } in
+    let fresh = way_is opens root files self.found start is s name body c.args.force _ tested ∙ tested.may.0 in
+    let room = limit_is opens root files self.found start is s name body c.args.force _ tested ∙ tested.may.1 in
+    let p = err_from_is_err_and c.from_residual-in_err-sealed.result c.from_residual-in_err-sealed.ensures.1 in
+    rw (p.1, p.2) (insert_unsealed opens root ring name body c.args.force start old new s still c.in_ok-ids.ids ruled fresh room (omega (arith, c.seal_body.ensures.calls))
+    c.in_err-sealed.field-0.0 (subst (λ (r : Ring). SealsBody {A = Global} opens r c.in_ok-ids.ids name body (Err c.in_err-sealed.field-0.0)) have (c.in_err-sealed.ensures.seals tells))
+    (λ other e. c.in_err-sealed.ensures.cause.failed (other, search rules)))
+
+pub returns-in_err-grown-clause-planned : goal.returns-in_err-grown-clause-planned
+returns-in_err-grown-clause-planned g c told tells ring have start s =
+    let self = c.args.self.now in
+    let root = self.vault.root in
+    let name = c.args.name.now in
+    let body = c.args.body.now in
+    let files = (g.D.Disk.meaning.view self.vault.disk).files in
+    let opens = g.C.Cipher.meaning.opens in
+    let old = moment_of self (one_tool g.C.Cipher.meaning c.args.tool.now) in
+    let mid = moment_of self (one_tool g.C.Cipher.meaning c.seal_body.new.tool) in
+    let is = self.agrees c.requires.free told in
+    let ids = c.in_ok-ids.ids in
+    let ruled = ids_are opens root files self.found start is s name ∙ c.in_ok-ids.ensures.rule in
+    let tested = c.in_ok-test.ensures.tested in
+    let at_rest = self.vault.at_rest c.requires.free told in
+    let still : Still root old mid = record { at_rest = at_rest; rests = (still_same root old at_rest).rests; commits = refl; tools_later = c.seal_body.ensures.cause.later } in
+    let fresh = way_is opens root files self.found start is s name body c.args.force _ tested ∙ tested.may.0 in
+    let room = limit_is opens root files self.found start is s name body c.args.force _ tested ∙ tested.may.1 in
+    let p = err_from_is_err_and c.from_residual-in_err-grown.result c.from_residual-in_err-grown.ensures.1 in
+    rw (p.1, p.2) (insert_no_memory_then opens root ring name body c.args.force start old mid s still ids ruled fresh room (omega (arith, c.seal_body.ensures.calls)))
+
+pub returns-in_err-change-clause-planned : goal.returns-in_err-change-clause-planned
+returns-in_err-change-clause-planned g c told tells ring have start s =
+    let self = c.args.self.now in
+    let root = self.vault.root in
+    let name = c.args.name.now in
+    let body = c.args.body.now in
+    let files = (g.D.Disk.meaning.view self.vault.disk).files in
+    let opens = g.C.Cipher.meaning.opens in
+    let old = moment_of self (one_tool g.C.Cipher.meaning c.args.tool.now) in
+    let mid = moment_of self (one_tool g.C.Cipher.meaning c.seal_body.new.tool) in
+    let is = self.agrees c.requires.free told in
+    let ids = c.in_ok-ids.ids in
+    let ruled = ids_are opens root files self.found start is s name ∙ c.in_ok-ids.ensures.rule in
+    let tested = c.in_ok-test.ensures.tested in
+    let at_rest = self.vault.at_rest c.requires.free told in
+    let still : Still root old mid = record { at_rest = at_rest; rests = (still_same root old at_rest).rests; commits = refl; tools_later = c.seal_body.ensures.cause.later } in
+    let fresh = way_is opens root files self.found start is s name body c.args.force _ tested ∙ tested.may.0 in
+    let room = limit_is opens root files self.found start is s name body c.args.force _ tested ∙ tested.may.1 in
+    let p = err_from_is_err_and c.from_residual-in_err-change.result c.from_residual-in_err-change.ensures.1 in
+    rw (p.1, p.2) (insert_no_memory_then opens root ring name body c.args.force start old mid s still ids ruled fresh room (omega (arith, c.seal_body.ensures.calls)))
+
+pub returns-in_err-commit-clause-planned : goal.returns-in_err-commit-clause-planned
+returns-in_err-commit-clause-planned g c told tells ring have start s =
+    let self = c.args.self.now in
+    let root = self.vault.root in
+    let name = c.args.name.now in
+    let body = c.args.body.now in
+    let files = (g.D.Disk.meaning.view self.vault.disk).files in
+    let opens = g.C.Cipher.meaning.opens in
+    let old = moment_of self (one_tool g.C.Cipher.meaning c.args.tool.now) in
+    let mid = moment_of self (one_tool g.C.Cipher.meaning c.seal_body.new.tool) in
+    let is = self.agrees c.requires.free told in
+    let ids = c.in_ok-ids.ids in
+    let ruled = ids_are opens root files self.found start is s name ∙ c.in_ok-ids.ensures.rule in
+    let tested = c.in_ok-test.ensures.tested in
+    let at_rest = self.vault.at_rest c.requires.free told in
+    let still : Still root old mid = record { at_rest = at_rest; rests = (still_same root old at_rest).rests; commits = refl; tools_later = c.seal_body.ensures.cause.later } in
+    let fresh = way_is opens root files self.found start is s name body c.args.force _ tested ∙ tested.may.0 in
+    let room = limit_is opens root files self.found start is s name body c.args.force _ tested ∙ tested.may.1 in
+    let change = c.in_ok-change.change in
+    let put_is = c.in_ok-change.ensures in
+    let sealed = c.in_ok-sealed.sealed.items in
+    let seals = subst (λ (r : Ring). SealsBody {A = Global} opens r ids name body (Ok c.in_ok-sealed.sealed)) have (c.in_ok-sealed.ensures.seals tells) in
+    let mounts = mounts_agree opens root files self.found start is s in
+    let table = subst (λ (rows : List Row). IsTable root rows) (sym mounts) (table_agrees opens root files self.found start is s put_is.table) in
+    let after = changed change files in
+    let path : put_is.path ≡ secret_path start.mounts name = secret_file (root_of self.found.mounts) self.found.mounts name put_is.path put_is.table put_is.file ∙ ap (λ rows. secret_path rows name) (sym mounts) in
+    let after_is : after ≡ put files (secret_path start.mounts name) (Some sealed) = change_puts change files put_is.path sealed put_is.puts put_is.drops ∙ ap (λ q. put files q (Some sealed)) path in
+    let has_room = room_by body (is_there start name) (map.len start.rows) (slice_index_or start.sizes (mount_of start.mounts name) 0) room in
+    let sizes = sizes_inserted opens root files after start name sealed (Sealed (made_of ids body)) s table put_is.good after_is has_room.files_few in
+    let run = c.commit.ensures.any_moment c.requires.free told in
+    let new : Moment = record {
+      view = g.D.Disk.meaning.view c.commit.new.self.disk;
+      faults = record { disk = g.D.Disk.meaning.faults c.commit.new.self.disk; tools = g.C.Cipher.meaning.faults c.seal_body.new.tool };
+      calls = g.C.Cipher.meaning.calls c.seal_body.new.tool;
+      commits = c.commit.new.self.commits;
+      stuck = c.commit.new.self.stuck;
+    } in
+    let fault = c.in_err-commit.field-0.0 in
+    let p = err_from_is_err_and c.from_residual-in_err-commit.result c.from_residual-in_err-commit.ensures.1 in
+    rw (p.1) (insert_broken opens root ring name body c.args.force start old mid new s still table put_is.good ids ruled fresh room seals.1 sealed seals.0 after after_is sizes run
+    fault p.0 (never_stuck c.commit.result fault self.vault.stuck c.in_err-commit.was c.commit.ensures.was_stuck c.requires.free)
+    (λ e. p.2 ∙ ap refusal_by_commit e) (λ e. p.2 ∙ ap refusal_by_commit e) (λ e. c.commit.ensures.cause.failed (c.in_err-commit.was ∙ ap Err e))
+    c.in_err-commit.ensures.uncounted (c.commit.ensures.is_stuck ∙ ap is_err c.in_err-commit.was) c.seal_body.ensures.cause.later (omega (arith, c.seal_body.ensures.calls)))
+
+pub returns-in_err-commit-clause-keeps : goal.returns-in_err-commit-clause-keeps
+returns-in_err-commit-clause-keeps g c =
+    let self = c.args.self.now in
+    let fault = c.in_err-commit.field-0.0 in
+    let p = err_from_is_err_and c.from_residual-in_err-commit.result c.from_residual-in_err-commit.ensures.1 in
+    rw (p.1) (commit_keeps self (record { vault = c.commit.new.self; found = self.found; agrees = c.in_err-commit.self-1-own.given.0 }) (one_tool g.C.Cipher.meaning c.args.tool.now) (one_tool g.C.Cipher.meaning c.seal_body.new.tool)
+    c.args.name.now fault p.0 p.2 (never_stuck c.commit.result fault self.vault.stuck c.in_err-commit.was c.commit.ensures.was_stuck c.requires.free)
+    c.commit.ensures.cause.later c.seal_body.ensures.cause.later (λ e. c.commit.ensures.cause.failed (c.in_err-commit.was ∙ ap Err e)) (omega (arith, c.seal_body.ensures.calls)) c.commit.ensures.root
+    (λ ring have. c.seal_body.ensures.ring ∙ have))
+
+pub invariant_of-self-2 : goal.invariant_of-self-2
+invariant_of-self-2 g c =
+    let self = c.args.self.now in
+    let root = self.vault.root in
+    let name = c.args.name.now in
+    let files = (g.D.Disk.meaning.view self.vault.disk).files in
+    let change = c.in_ok-change.change in
+    let put_is = c.in_ok-change.ensures in
+    let sealed = c.in_ok-sealed.sealed.items in
+    let after = changed change files in
+    let path : put_is.path ≡ secret_path self.found.mounts name = secret_file (root_of self.found.mounts) self.found.mounts name put_is.path put_is.table put_is.file in
+    let after_is : after ≡ put files (secret_path self.found.mounts name) (Some sealed) = change_puts change files put_is.path sealed put_is.puts put_is.drops ∙ ap (λ q. put files q (Some sealed)) path in
+    record {
+      agrees = λ free told.
+          let stands = c.in_ok-commit.ensures.made told in
+          let here = taken_is_found root files after self.found name c.args.body.now sealed c.args.force (self.agrees c.requires.free told) put_is.good after_is _ c.in_ok-test.ensures.tested
+          c.in_ok-grown.grown c.take_over.new.found c.in_ok-grown.ensures c.take_over.ensures in
+          let by_files = subst (λ (f : Files). ∥ IsFound root f c.take_over.new.found ∥₁) (sym stands.files) here in
+          subst (λ (r : Text). ∥ IsFound r (g.D.Disk.meaning.view c.commit.new.self.disk).files c.take_over.new.found ∥₁) (sym c.commit.ensures.root) by_files;
+    }
+
+pub returns-clause-planned : goal.returns-clause-planned
+returns-clause-planned g c told tells ring have start s =
+    let self = c.args.self.now in
+    let root = self.vault.root in
+    let name = c.args.name.now in
+    let body = c.args.body.now in
+    let files = (g.D.Disk.meaning.view self.vault.disk).files in
+    let opens = g.C.Cipher.meaning.opens in
+    let old = moment_of self (one_tool g.C.Cipher.meaning c.args.tool.now) in
+    let mid = moment_of self (one_tool g.C.Cipher.meaning c.seal_body.new.tool) in
+    let is = self.agrees c.requires.free told in
+    let ids = c.in_ok-ids.ids in
+    let ruled = ids_are opens root files self.found start is s name ∙ c.in_ok-ids.ensures.rule in
+    let tested = c.in_ok-test.ensures.tested in
+    let at_rest = self.vault.at_rest c.requires.free told in
+    let still : Still root old mid = record { at_rest = at_rest; rests = (still_same root old at_rest).rests; commits = refl; tools_later = c.seal_body.ensures.cause.later } in
+    let fresh = way_is opens root files self.found start is s name body c.args.force _ tested ∙ tested.may.0 in
+    let room = limit_is opens root files self.found start is s name body c.args.force _ tested ∙ tested.may.1 in
+    let change = c.in_ok-change.change in
+    let put_is = c.in_ok-change.ensures in
+    let sealed = c.in_ok-sealed.sealed.items in
+    let seals = subst (λ (r : Ring). SealsBody {A = Global} opens r ids name body (Ok c.in_ok-sealed.sealed)) have (c.in_ok-sealed.ensures.seals tells) in
+    let mounts = mounts_agree opens root files self.found start is s in
+    let table = subst (λ (rows : List Row). IsTable root rows) (sym mounts) (table_agrees opens root files self.found start is s put_is.table) in
+    let after = changed change files in
+    let path : put_is.path ≡ secret_path start.mounts name = secret_file (root_of self.found.mounts) self.found.mounts name put_is.path put_is.table put_is.file ∙ ap (λ rows. secret_path rows name) (sym mounts) in
+    let after_is : after ≡ put files (secret_path start.mounts name) (Some sealed) = change_puts change files put_is.path sealed put_is.puts put_is.drops ∙ ap (λ q. put files q (Some sealed)) path in
+    let has_room = room_by body (is_there start name) (map.len start.rows) (slice_index_or start.sizes (mount_of start.mounts name) 0) room in
+    let sizes = sizes_inserted opens root files after start name sealed (Sealed (made_of ids body)) s table put_is.good after_is has_room.files_few in
+    let run = c.commit.ensures.any_moment c.requires.free told in
+    let new : Moment = record {
+      view = g.D.Disk.meaning.view c.commit.new.self.disk;
+      faults = record { disk = g.D.Disk.meaning.faults c.commit.new.self.disk; tools = g.C.Cipher.meaning.faults c.seal_body.new.tool };
+      calls = g.C.Cipher.meaning.calls c.seal_body.new.tool;
+      commits = c.commit.new.self.commits;
+      stuck = c.commit.new.self.stuck;
+    } in
+    insert_done opens root ring name body c.args.force start old mid new s still table put_is.good ids ruled fresh room seals.1 sealed seals.0 after after_is sizes run
+    (c.in_ok-commit.ensures.made told) c.in_ok-commit.ensures.counted c.seal_body.ensures.cause.later (omega (arith, c.seal_body.ensures.calls))
