@@ -2,6 +2,8 @@
 #![tactic(auto)]
 
 #[cfg(test)]
+mod insert_tests;
+#[cfg(test)]
 mod listing_tests;
 #[cfg(test)]
 mod opening_tests;

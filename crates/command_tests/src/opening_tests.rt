@@ -30,6 +30,8 @@ const MOUNTED: Store = Store {
     ],
     held: "alice",
     disk_fails: &[],
+    input: b"",
+    input_fails: &[],
     tool_fails: &[],
     out_fails: &[],
 };

@@ -13,6 +13,8 @@ const RULES: Store = Store {
     ],
     held: "alice",
     disk_fails: &[],
+    input: b"",
+    input_fails: &[],
     tool_fails: &[],
     out_fails: &[],
 };

@@ -30,6 +30,8 @@ const STORE: Store = Store {
     files: ALL,
     held: "alice",
     disk_fails: &[],
+    input: b"",
+    input_fails: &[],
     tool_fails: &[],
     out_fails: &[],
 };

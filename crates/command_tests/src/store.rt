@@ -6,17 +6,20 @@ ghost use Rattle.cipher_port.specs.Tool.{Ring};
 use cipher_port::{Id, MemTool};
 use disk_model::MemDisk;
 use gopass_cli::{Ended, gopass};
-use io_ports::MemSink;
+use io_ports::{MemSink, MemSource};
 use mount_table::{DirPath, FilePath};
 use std::alloc::Global;
 use std::process::Abort;
 use std::test::Fail;
 
-/// A store whose root directory is `root`, one tool, and the numbers of the calls that fail.
+/// A store whose root directory is `root`, one tool, the input, and the numbers of the calls that
+/// fail.
 #[derive(Clone, Copy)]
 pub(crate) struct Store<'a> {
     pub files: &'a [(&'a str, &'a [u8])],
     pub held: &'a str,
+    pub input: &'a [u8],
+    pub input_fails: &'a [u64],
     pub disk_fails: &'a [u64],
     pub tool_fails: &'a [u64],
     pub out_fails: &'a [u64],
@@ -25,10 +28,11 @@ pub(crate) struct Store<'a> {
 /// The words, and the status, standard output and standard error that they leave.
 pub(crate) type Row<'a> = (&'a [&'a str], u8, &'a str, &'a str);
 
-/// What a run left: its status, and the bytes of its two streams.
-#[derive(Debug, Drop)]
+/// What a run left: its status, the disk, and the bytes of its two streams.
+#[derive(Drop)]
 pub(crate) struct Left {
     pub status: u8,
+    pub disk: MemDisk,
     pub out: Vec<u8>,
     pub err: Vec<u8>,
 }
@@ -93,14 +97,17 @@ pub(crate) fn run_texts(
     texts: &[String],
 ) -> Result<Left, Fail> {
     let mut tools = tools(alloc, store)?;
+    let input = store.input.to_vec(alloc)?;
+    let mut input = MemSource::new(input, store.input_fails.to_vec(alloc)?);
     let mut out = MemSink::new(alloc, 40_000, store.out_fails.to_vec(alloc)?)?;
     let mut err = MemSink::new(alloc, 1_000, Vec::new(alloc))?;
     let root = DirPath::read(alloc, "root")?;
-    let Ended { status, disk: _ } = gopass(
-        alloc, texts, &root, disk, &mut tools, &mut out, &mut err,
+    let Ended { status, disk } = gopass(
+        alloc, texts, &root, disk, &mut tools, &mut input, &mut out, &mut err,
     );
     Ok(Left {
         status,
+        disk,
         out: out.taken().to_vec(alloc)?,
         err: err.taken().to_vec(alloc)?,
     })

@@ -1,6 +1,7 @@
 //! What a command asks of the tool and of the disk.
 
-ghost use Rattle.std.specs.Prelude.{IfOk, IsFalse};
+ghost use Rattle.std.specs.Prelude.{◌≡◌, IfOk, IsFalse, false};
+ghost use Rattle.gopass_cli.specs.Requests.{takes_body};
 
 use crate::store::{Store, disk, tools};
 use command_words::Command;
@@ -22,6 +23,8 @@ const STORE: Store = Store {
     ],
     held: "alice",
     disk_fails: &[],
+    input: b"",
+    input_fails: &[],
     tool_fails: &[],
     out_fails: &[],
 };
@@ -40,8 +43,10 @@ fn opened(alloc: Global, store: &Store) -> Result<store_core::Store<MemDisk>, Fa
     }
 }
 
-/// The status, the calls of the tool and those of the disk that a command makes.
-fn counts(alloc: Global, command: Command) -> Result<(u8, u64, u64), Fail> {
+/// The status, the calls of the tool and those of the disk that a command without a body makes.
+fn counts(alloc: Global, command: Command) -> Result<(u8, u64, u64), Fail>
+    requires { takes_body command ≡ false }
+{
     let mut store = opened(alloc, &STORE)?;
     let mut tools = tools(alloc, &STORE)?;
     let request = Request {

@@ -9,7 +9,7 @@ use std::alloc::{AllocError, Global};
 use std::process::ExitCode;
 use std::{env, io};
 use store::{disk, root, tool};
-use stream::StdSink;
+use stream::{StdSink, StdSource};
 
 /// The words behind the program's name.
 fn words(rt: &HostRuntime) -> io::Result<Vec<String>> {
@@ -24,6 +24,7 @@ fn words(rt: &HostRuntime) -> io::Result<Vec<String>> {
 fn run(rt: &HostRuntime, words: &[String]) -> Result<u8, AllocError> {
     let mut tools = Vec::new(rt.alloc());
     tools.push(tool(rt.alloc())?)?;
+    let mut input = StdSource::new(rt.stdin());
     let mut out = StdSink::new(rt.stdout());
     let mut err = StdSink::new(rt.stderr());
     let Ended { status, disk: _ } = gopass(
@@ -32,6 +33,7 @@ fn run(rt: &HostRuntime, words: &[String]) -> Result<u8, AllocError> {
         &root(rt.alloc())?,
         disk(rt.alloc())?,
         &mut tools,
+        &mut input,
         &mut out,
         &mut err,
     );

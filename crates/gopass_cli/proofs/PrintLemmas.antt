@@ -1,5 +1,5 @@
 -- What is printed where no sink failed.
-use Rattle.std.proofs.Common.{ℕ, inl, inr}
+use Rattle.std.proofs.Common.{◌≡◌, ◌≢◌, ℕ, inl, inr}
 use Rattle.gopass_base.specs.Faults.{Rose}
 use Rattle.store_core.specs.Said.{Said}
 use Rattle.gopass_cli.specs.Printed.{Stream, Prints, PrintsAll}
@@ -9,3 +9,9 @@ pub prints_all : (said : Said) (status : ℕ) (out out' err err' : Stream) → �
 prints_all said status out out' err err' out_kept err_kept (inl p) = p
 prints_all said status out out' err err' out_kept err_kept (inr (inl p)) = absurd (out_kept p.stops.rose)
 prints_all said status out out' err err' out_kept err_kept (inr (inr p)) = absurd (err_kept p.stops.rose)
+
+-- a status that is not 16 is that of the answer
+pub printed_status : (said : Said) (status : ℕ) (out out' err err' : Stream) → Prints said status out out' err err' → status ≢ 16 → status ≡ said.status
+printed_status said status out out' err err' (inl all) other = all.status_is
+printed_status said status out out' err err' (inr (inl stops)) other = absurd (other stops.status_is)
+printed_status said status out out' err err' (inr (inr stops)) other = absurd (other stops.status_is)

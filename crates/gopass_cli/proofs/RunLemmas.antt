@@ -5,8 +5,6 @@ use Rattle.std.specs.Option.{option_to_list}
 use Rattle.gopass_base.specs.Text.{Text}
 use Rattle.gopass_base.specs.Faults.{Rose}
 use Rattle.disk_model.specs.Files.{Files}
-use Rattle.disk_model.specs.Disk.{View, Rests}
-use Rattle.disk_model.specs.Runs.{Leaves}
 use Rattle.pending_journal.specs.Redo.{StandsFor as StandsForFiles}
 use Rattle.pending_journal.specs.Faults.{RefusesVault}
 use Rattle.pending_journal.specs.declared.fault.VaultFault.{VaultFault}
@@ -17,12 +15,16 @@ use Rattle.store_core.specs.declared.fault.StoreFault.{StoreFault}
 use Rattle.store_core.specs.declared.fault.StoreFault.TheVariants.{BadFile, Full, Disk, NoMemory}
 use Rattle.store_core.specs.Opening.{Opens as OpensStore}
 use Rattle.store_core.specs.State.{State}
-use Rattle.store_core.specs.Said.{Said, Plan, refused, unsaid}
-use Rattle.store_core.specs.Texts.{bad_line}
+use Rattle.store_core.specs.Said.{Said, Plan, unsaid}
 use Rattle.store_core.specs.Events.{Events, calm, named, Cause, TheDisk, Memory, Stop}
 use Rattle.store_core.specs.Moment.{Faults, Moment}
 use Rattle.store_core.specs.Performs.{IsTied, Performs, RoseBy, cut, stop_said}
 use Rattle.store_core.proofs.PerformLemmas.{calm_tied, stopped_tied}
+use Rattle.command_words.specs.declared.command.Command.TheVariants as commands
+use Rattle.gopass_cli.specs.declared.body.BodyFault.{BodyFault}
+use Rattle.gopass_cli.specs.declared.body.BodyFault.TheVariants.{Missing, Long, Failed, NoMemory as NoBodyRoom}
+use Rattle.gopass_cli.specs.Bodies.{Input}
+use Rattle.gopass_cli.specs.Requests.{IsLeft, IsNoBody, SaysOfInput, SaysOfRequest, body_said}
 use Rattle.gopass_cli.specs.Opening.{SaysOfCommand, fault_said, vault_said}
 use Rattle.gopass_cli.specs.Replies.{Says}
 use Rattle.gopass_cli.specs.Run.{Runs, UpTo}
@@ -100,19 +102,40 @@ said_calmly S old new said disk tools had p = said_by_none S old new p.events p.
 -- ---- openings that are refused
 
 -- by the store
-pub runs_fault : (opens : Opens) (root : Text) (files after : Files) (ring : Ring) (command : Command) (old new : Faults) (fault : StoreFault) (said : Said) → old.tools ≤ new.tools → StandsForFiles root files after → OpensStore root after (Err fault)
-    → (fault ≡ Disk → Rose old.disk new.disk) → Says (fault_said fault) said → Runs (SaysOfCommand opens root files ring command) old new said
-runs_fault opens root files after ring command old new (BadFile path line) said later redone refuses rose says =
-    runs_meant (SaysOfCommand opens root files ring command) old new later (fault_said (BadFile path line)) said (inr (inl (record { after = after; redone = redone; fault = BadFile path line; of_files = tt; refuses = refuses; says = refl }))) says
-runs_fault opens root files after ring command old new (Full limit) said later redone refuses rose says =
-    runs_meant (SaysOfCommand opens root files ring command) old new later (fault_said (Full limit)) said (inr (inl (record { after = after; redone = redone; fault = Full limit; of_files = tt; refuses = refuses; says = refl }))) says
-runs_fault opens root files after ring command old new Disk said later redone refuses rose says = runs_disk (SaysOfCommand opens root files ring command) old new later said (rose refl) says
-runs_fault opens root files after ring command old new NoMemory said later redone refuses rose says = runs_no_memory (SaysOfCommand opens root files ring command) old new later said says
+pub runs_fault : (opens : Opens) (root : Text) (files after : Files) (input : Input) (same : IsLeft input) (ring : Ring) (command : Command) (old new : Faults) (fault : StoreFault) (said : Said) → old.tools ≤ new.tools → StandsForFiles root files after → OpensStore root after (Err fault)
+    → (fault ≡ Disk → Rose old.disk new.disk) → Says (fault_said fault) said → Runs (SaysOfCommand opens root files input ring command) old new said
+runs_fault opens root files after input same ring command old new (BadFile path line) said later redone refuses rose says =
+    runs_meant (SaysOfCommand opens root files input ring command) old new later (fault_said (BadFile path line)) said (inr (inl (record { after = after; redone = redone; fault = BadFile path line; of_files = tt; refuses = refuses; says = refl }, same))) says
+runs_fault opens root files after input same ring command old new (Full limit) said later redone refuses rose says =
+    runs_meant (SaysOfCommand opens root files input ring command) old new later (fault_said (Full limit)) said (inr (inl (record { after = after; redone = redone; fault = Full limit; of_files = tt; refuses = refuses; says = refl }, same))) says
+runs_fault opens root files after input same ring command old new Disk said later redone refuses rose says = runs_disk (SaysOfCommand opens root files input ring command) old new later said (rose refl) says
+runs_fault opens root files after input same ring command old new NoMemory said later redone refuses rose says = runs_no_memory (SaysOfCommand opens root files input ring command) old new later said says
 
 -- by the vault
-pub runs_vault : (opens : Opens) (root : Text) (files : Files) (ring : Ring) (command : Command) (old new : Faults) (fault : VaultFault) (said : Said) → old.tools ≤ new.tools → RefusesVault root files fault
-    → (fault ≡ VaultDisk → Rose old.disk new.disk) → Says (vault_said root fault) said → Runs (SaysOfCommand opens root files ring command) old new said
-runs_vault opens root files ring command old new (BadJournal line) said later bad rose says =
-    runs_meant (SaysOfCommand opens root files ring command) old new later (vault_said root (BadJournal line)) said (inl (record { bad = bad; line = line; says = refl })) says
-runs_vault opens root files ring command old new VaultDisk said later refuses rose says = runs_disk (SaysOfCommand opens root files ring command) old new later said (rose refl) says
-runs_vault opens root files ring command old new VaultNoMemory said later refuses rose says = runs_no_memory (SaysOfCommand opens root files ring command) old new later said says
+pub runs_vault : (opens : Opens) (root : Text) (files : Files) (input : Input) (same : IsLeft input) (ring : Ring) (command : Command) (old new : Faults) (fault : VaultFault) (said : Said) → old.tools ≤ new.tools → RefusesVault root files fault
+    → (fault ≡ VaultDisk → Rose old.disk new.disk) → Says (vault_said root fault) said → Runs (SaysOfCommand opens root files input ring command) old new said
+runs_vault opens root files input same ring command old new (BadJournal line) said later bad rose says =
+    runs_meant (SaysOfCommand opens root files input ring command) old new later (vault_said root (BadJournal line)) said (inl (record { bad = bad; line = line; says = refl }, same)) says
+runs_vault opens root files input same ring command old new VaultDisk said later refuses rose says = runs_disk (SaysOfCommand opens root files input ring command) old new later said (rose refl) says
+runs_vault opens root files input same ring command old new VaultNoMemory said later refuses rose says = runs_no_memory (SaysOfCommand opens root files input ring command) old new later said says
+
+-- ---- a body that is not given
+
+-- there is none, the input is over its limit, or it failed
+says_of_input : (command : Command) (input : Input) (fault : BodyFault) → IsNoBody command input fault → (fault ≡ NoBodyRoom → ⊥) → SaysOfInput command input (body_said fault)
+says_of_input (commands.Insert name force multi) input Missing why other = inl (why, refl)
+says_of_input (commands.Insert name force multi) input Long why other = inr (inl (why, refl))
+says_of_input (commands.Insert name force multi) input Failed why other = inr (inr (why, refl))
+says_of_input (commands.Insert name force multi) input NoBodyRoom why other = absurd (other refl)
+says_of_input (commands.Show name) input fault why other = why
+says_of_input (commands.Ls folder flat) input fault why other = why
+says_of_input (commands.Find text) input fault why other = why
+says_of_input commands.Mounts input fault why other = why
+says_of_input commands.Recipients input fault why other = why
+
+pub runs_no_body : (command : Command) (input : Input) (ring : Ring) (state : State) (old new : Faults) (fault : BodyFault) (said : Said) → old.tools ≤ new.tools → IsNoBody command input fault → Says (body_said fault) said
+    → Runs (SaysOfRequest command input ring state) old new said
+runs_no_body command input ring state old new NoBodyRoom said later why says = runs_no_memory (SaysOfRequest command input ring state) old new later said says
+runs_no_body command input ring state old new Missing said later why says = runs_meant (SaysOfRequest command input ring state) old new later (body_said Missing) said (inl (says_of_input command input Missing why (λ e. cc))) says
+runs_no_body command input ring state old new Long said later why says = runs_meant (SaysOfRequest command input ring state) old new later (body_said Long) said (inl (says_of_input command input Long why (λ e. cc))) says
+runs_no_body command input ring state old new Failed said later why says = runs_meant (SaysOfRequest command input ring state) old new later (body_said Failed) said (inl (says_of_input command input Failed why (λ e. cc))) says

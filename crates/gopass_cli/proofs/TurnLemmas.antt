@@ -11,6 +11,7 @@ use Rattle.mount_table.specs.declared.name.BadName.{BadName}
 use Rattle.disk_model.specs.declared.disk.Disk.{Ghosts}
 use Rattle.cipher_port.specs.Tool.{Opens, ToolMeaning}
 use Rattle.store_core.specs.declared.store.Store.{Store}
+use Rattle.pending_journal.specs.Redo.{IsAtRest}
 use Rattle.store_core.specs.State.{State, StandsFor}
 use Rattle.store_core.specs.Said.{Said, Plan, answers, refused, unsaid}
 use Rattle.store_core.specs.Texts.{bad_name}
@@ -36,7 +37,7 @@ lifts opens root plan start old new said a b A B c d C D more least calls few p 
   stop = p.stop;
   tied = record { tools = omega (arith, more, least, p.tied.tools); disk = p.tied.disk };
   says = p.says;
-  goes = record { within = p.goes.within; counted = p.goes.counted; state = p.goes.state; still = p.goes.still };
+  goes = record { within = p.goes.within; counted = p.goes.counted; state = p.goes.state; any_moment = p.goes.any_moment; at_end = p.goes.at_end; still = p.goes.still };
   calls = omega (arith, calls, few, p.calls);
 }
 
@@ -47,15 +48,15 @@ pub performs_says : (opens : Opens) (root : Text) (plan : Events → Plan) (star
 performs_says opens root plan start old new wanted said p (inl e) = subst (Performs opens root plan start old new) (sym e) p
 performs_says opens root plan start old new wanted said p (inr e) = subst (Performs opens root plan start old new) (sym e) (wants_memory opens root start plan old new wanted p)
 
-module _ (opens : Opens) (root : Text) (plan : Events → Plan) (start : State) (now : Moment) (stands : StandsFor opens root now.view.files start) where
+module _ (opens : Opens) (root : Text) (plan : Events → Plan) (start : State) (now : Moment) (stands : StandsFor opens root now.view.files start) (rest : IsAtRest root now.view) where
   -- there was no memory at the start
   pub wants_first : Performs opens root plan start now now unsaid
-  wants_first = quiet_stop opens root start plan now now stands (still_same now) Memory (λ e. absurd (cc)) (omega arith)
+  wants_first = quiet_stop opens root start plan now now stands (still_same root now rest) Memory (λ e. absurd (cc)) (omega arith)
 
   -- a command that changes nothing and calls no tool
   pub only_answers : (wanted said : Said) → plan calm ≡ answers wanted → Says wanted said → Performs opens root plan start now now said
   only_answers wanted said is says = performs_says opens root plan start now now wanted said
-      (quiet opens root start plan now now stands (still_same now) calm wanted 0 (calm_tied now.faults now.faults (omega arith)) (omega arith) is) says
+      (quiet opens root start plan now now stands (still_same root now rest) calm wanted 0 (calm_tied now.faults now.faults (omega arith)) (omega arith) is) says
 
 -- ---- what the plans are that only answer
 
@@ -103,6 +104,7 @@ module _ {D C : Type 0} {G : Ghosts D} (meaning : ToolMeaning C) (old new : Stor
       no_sink = k.causes.no_sink;
     };
     calls = omega (arith, sum_moves meaning.calls, sum_has meaning.calls, k.calls);
+    no_input = k.no_input;
     free = k.free;
     root = k.root;
     rings = λ ring have. All-set (λ t. meaning.ring t ≡ ring) tools 0 now (k.rings ring (ap meaning.ring first ∙ have 0 tool some)) have;
@@ -120,6 +122,7 @@ keeps_says most old new before after wanted said k (inr e) = record {
     no_sink = λ is. (let sixteen : 16 ≡ 14 = sym is ∙ ap (λ (s : Said). s.status) e in omega (arith, sixteen));
   };
   calls = k.calls;
+  no_input = λ is. (let fifteen : 15 ≡ 14 = sym is ∙ ap (λ (s : Said). s.status) e in omega (arith, fifteen));
   free = λ disk memory. absurd (memory (ap (λ (s : Said). s.status) e));
   root = k.root;
   rings = k.rings;

@@ -4,7 +4,9 @@ pub mod Find
 pub mod Mounts
 pub mod Recipients
 pub mod Plan
+pub mod Bodies
 pub mod Requests
+pub mod Safe
 pub mod Replies
 pub mod Listings
 pub mod Opening
@@ -12,3 +14,4 @@ pub mod Run
 pub mod Printed
 pub mod Causes
 pub mod Ran
+pub mod History

@@ -18,7 +18,8 @@ use Rattle.store_core.specs.Events.{Events, TheDisk}
 use Rattle.store_core.specs.Performs.{stop_said}
 use Rattle.store_core.specs.Said.{Said, refused, unsaid}
 use Rattle.store_core.specs.Texts.{bad_line, limit_passed}
-use Rattle.gopass_cli.specs.Plan.{plan_of}
+use Rattle.gopass_cli.specs.Bodies.{Input}
+use Rattle.gopass_cli.specs.Requests.{IsLeft, SaysOfRequest}
 
 -- a journal is there that does not read: it is bad at one of its lines
 pub record SaysOfJournal (root : Text) (files : Files) (said : Said) : Type 0 where
@@ -55,16 +56,17 @@ pub record SaysOfFault (root : Text) (files : Files) (said : Said) : Type 0 wher
   pub refuses : OpensStore root after (Err fault)
   pub says : said ≡ fault_said fault
 
--- the files for which those on the disk stand are those of a store, and what is planned in its state is said
-pub record SaysOpened (opens : Opens) (root : Text) (files : Files) (ring : Ring) (command : Command) (events : Events) (said : Said) : Type 0 where
+-- the files for which those on the disk stand are those of a store, and the command is answered in its state
+pub record SaysOpened (opens : Opens) (root : Text) (files : Files) (input : Input) (ring : Ring) (command : Command) (events : Events) (said : Said) : Type 0 where
   pub after : Files
   pub redone : StandsForFiles root files after
   pub found : Found
   pub finds : IsFound root after found
   pub state : State
   pub stands : StandsFor opens root after state
-  pub says : said ≡ (plan_of ring command state events).said
+  pub says : SaysOfRequest command input ring state events said
 
 -- what is said of a command on these files, for what the outside gave
-abbrev pub SaysOfCommand : Opens → Text → Files → Ring → Command → Events → Said → Type 0
-SaysOfCommand opens root files ring command events said = SaysOfJournal root files said ⊎ (SaysOfFault root files said ⊎ SaysOpened opens root files ring command events said)
+abbrev pub SaysOfCommand : Opens → Text → Files → Input → Ring → Command → Events → Said → Type 0
+SaysOfCommand opens root files input ring command events said =
+    (SaysOfJournal root files said × IsLeft input) ⊎ ((SaysOfFault root files said × IsLeft input) ⊎ SaysOpened opens root files input ring command events said)

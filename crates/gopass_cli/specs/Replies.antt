@@ -14,4 +14,5 @@ Says wanted said = (said ≡ wanted) ⊎ (said ≡ unsaid)
 pub record IsOwn (status : ℕ) : Type 0 where
   pub no_tool : status ≢ 11
   pub no_disk : status ≢ 12
+  pub no_input : status ≢ 15
   pub no_sink : status ≢ 16

@@ -12,16 +12,18 @@ use Rattle.store_core.specs.Texts.{bad_words}
 use Rattle.store_core.specs.Events.{Events, Stop}
 use Rattle.store_core.specs.Moment.{Faults, HaveRing}
 use Rattle.store_core.specs.Performs.{IsTied, stop_said}
+use Rattle.gopass_cli.specs.Bodies.{Input}
+use Rattle.gopass_cli.specs.Requests.{IsLeft}
 use Rattle.gopass_cli.specs.Opening.{SaysOfCommand}
 
 -- what is said of the command that the words give, or of the first word that is bad
-abbrev pub SaysOfWords : Result Asked ℕ → Opens → Text → Files → Ring → Events → Said → Type 0
-SaysOfWords (Err at) opens root files ring events said = said ≡ refused 2 (bad_words at)
-SaysOfWords (Ok asked) opens root files ring events said = (command : Command) × (asked ≡ asks command) × SaysOfCommand opens root files ring command events said
+abbrev pub SaysOfWords : Result Asked ℕ → Opens → Text → Files → Input → Ring → Events → Said → Type 0
+SaysOfWords (Err at) opens root files input ring events said = (said ≡ refused 2 (bad_words at)) × IsLeft input
+SaysOfWords (Ok asked) opens root files input ring events said = (command : Command) × (asked ≡ asks command) × SaysOfCommand opens root files input ring command events said
 
--- what a run says for these words on these files, in the order: words, opening, and the plan of the command
-abbrev pub RunSays : List Text → Opens → Text → Files → Ring → Events → Said → Type 0
-RunSays words opens root files ring events said = SaysOfWords (words_in words) opens root files ring events said
+-- what a run says for these words on these files, in the order: words, opening, the body, and the plan of the command
+abbrev pub RunSays : List Text → Opens → Text → Files → Input → Ring → Events → Said → Type 0
+RunSays words opens root files input ring events said = SaysOfWords (words_in words) opens root files input ring events said
 
 -- what is said, or that the run stopped
 abbrev pub UpTo : Option Stop → Type 0 → Said → Type 0

@@ -1,11 +1,10 @@
 //! The answer to the words of a command line.
 
-ghost use Rattle.std.specs.Prelude.{◌≡◌, ◌≤◌, IsFalse, map, string_bytes, vec_len};
+ghost use Rattle.std.specs.Prelude.{◌≡◌, ◌≢◌, ◌⊎◌, ◌≤◌, IsFalse, List, Option, Ok, Contains, is_some, map, string_bytes, vec_len};
 ghost use Rattle.disk_model.specs.Files.{Files};
-ghost use Rattle.disk_model.specs.Disk.{Rests};
+ghost use Rattle.disk_model.specs.Disk.{IsSound};
 ghost use Rattle.disk_model.specs.Runs.{Leaves};
 ghost use Rattle.pending_journal.specs.Redo.{StandsFor as StandsForFiles};
-ghost use Rattle.pending_journal.specs.Recovery.{IsOldOrAlike};
 ghost use Rattle.cipher_port.specs.Tool.{Ring};
 ghost use Rattle.store_core.specs.State.{State, StandsFor};
 ghost use Rattle.store_core.specs.Moment.{HaveRing};
@@ -13,15 +12,24 @@ ghost use Rattle.store_core.specs.Does.{HasCauses};
 ghost use Rattle.store_core.specs.Events.{TheDisk};
 ghost use Rattle.store_core.specs.Performs.{stop_said};
 ghost use Rattle.gopass_cli.specs.Opening.{SaysOfCommand, fault_said, vault_said};
+ghost use Rattle.command_words.specs.Said.{said as asks};
+ghost use Rattle.command_words.specs.Words.{words_in};
+ghost use Rattle.gopass_cli.specs.Causes.{HasInputCause};
+ghost use Rattle.gopass_cli.specs.Bodies.{Input, input_of};
 ghost use Rattle.gopass_cli.specs.Plan.{plan_of};
+ghost use Rattle.gopass_cli.specs.Requests.{IsGiven, SaysOfRequest, body_said, bytes_of, takes_body};
+ghost use Rattle.gopass_cli.specs.Safe.{IsOneOf, IsSafe, StandsForOne, Went};
+ghost use Rattle.command_words.specs.declared.command.Command.{Command as Asked};
 ghost use Rattle.gopass_cli.specs.Replies.{said_in, Says};
 ghost use Rattle.gopass_cli.specs.Run.{Answers, RunSays, faults_of};
 
+use crate::body::{BodyFault, take_body};
 use crate::reply::{Reply, no_memory, refuse_limit, refuse_line, refuse_with, refuse_words};
 use crate::turns::{Request, turn};
 use cipher_port::Cipher;
 use command_words::{Command, WordsFault, read_words};
 use disk_model::Disk;
+use io_ports::Source;
 use mount_table::{DirPath, ServiceFile};
 use pending_journal::{Vault, VaultFault, VaultOpened};
 use std::alloc::Global;
@@ -54,6 +62,18 @@ fn refuse_vault(alloc: Global, root: &DirPath, fault: VaultFault) -> Reply
     }
 }
 
+/// The answer where no body is given to a command that takes one.
+fn refuse_body(alloc: Global, fault: BodyFault) -> Reply
+    ensures { Says (body_said fault) (said_in result) }
+{
+    match fault {
+        BodyFault::Missing => refuse_with(alloc, 2, "no body"),
+        BodyFault::Long => refuse_with(alloc, 15, "the input is over 16777216 bytes"),
+        BodyFault::Failed => refuse_with(alloc, 15, "the input failed"),
+        BodyFault::NoMemory => no_memory(alloc),
+    }
+}
+
 /// The answer where a store is refused.
 fn refuse_store(alloc: Global, fault: StoreFault) -> Reply
     ensures { Says (fault_said fault) (said_in result) }
@@ -66,10 +86,11 @@ fn refuse_store(alloc: Global, fault: StoreFault) -> Reply
     }
 }
 
-/// The answer of a command on an open store.
-fn answer_open<D: Disk + Send, C: Cipher + Send>(
+/// The answer of a command with this body on an open store.
+fn answer_turn<D: Disk + Send, C: Cipher + Send>(
     alloc: Global,
     command: Command,
+    body: Option<Vec<u8>>,
     store: Store<D>,
     tools: &mut Vec<C>,
 ) -> Answered<D>
@@ -77,20 +98,23 @@ fn answer_open<D: Disk + Send, C: Cipher + Send>(
     requires few { vec_len tools.old ≤ 16 }
     requires rings { C.meaning.tells → (ring : Ring) × HaveRing C.meaning tools.old.items ring }
     requires free { IsFalse store.vault.stuck }
+    requires fits { is_some body ≡ takes_body command }
     ensures answers { (state : State) → StandsFor C.meaning.opens store.vault.root (D.meaning.view store.vault.disk).files state
         → Answers D.meaning C.meaning store.vault.disk result.disk tools.old.items tools.new.items
-        (λ ring events said. said ≡ (plan_of ring command state events).said) (said_in result.reply) }
-    ensures rests { D.meaning.tells → Rests (D.meaning.view store.vault.disk) (D.meaning.view result.disk) }
+        (λ ring events said. said ≡ (plan_of ring command (bytes_of body) state events).said) (said_in result.reply) }
+    ensures went { (state : State) → StandsFor C.meaning.opens store.vault.root (D.meaning.view store.vault.disk).files state
+        → D.meaning.tells → C.meaning.tells → (ring : Ring) → HaveRing C.meaning tools.old.items ring
+        → (before : List State) → Contains before state → (input : Input) → IsGiven command input (bytes_of body)
+        → Went C.meaning.opens store.vault.root ring command input before (D.meaning.view store.vault.disk) (D.meaning.view result.disk)
+        (faults_of D.meaning store.vault.disk C.meaning tools.old.items) (faults_of D.meaning result.disk C.meaning tools.new.items) result.reply.status }
     ensures rings { (ring : Ring) → HaveRing C.meaning tools.old.items ring → HaveRing C.meaning tools.new.items ring }
     ensures count { vec_len tools.new ≡ vec_len tools.old }
     ensures causes { HasCauses (faults_of D.meaning store.vault.disk C.meaning tools.old.items)
         (faults_of D.meaning result.disk C.meaning tools.new.items) result.reply.status }
+    ensures no_input { result.reply.status ≢ 15 }
 {
     let mut store = store;
-    let request = Request {
-        command,
-        body: None,
-    };
+    let request = Request { command, body };
     let reply = turn(alloc, &mut store, &request, tools);
     Answered {
         reply,
@@ -98,12 +122,48 @@ fn answer_open<D: Disk + Send, C: Cipher + Send>(
     }
 }
 
+/// The answer of a command on an open store, which takes its body from the input.
+fn answer_open<D: Disk + Send, C: Cipher + Send, S: Source>(
+    alloc: Global,
+    command: Command,
+    store: Store<D>,
+    tools: &mut Vec<C>,
+    input: &mut S,
+) -> Answered<D>
+    requires some { 1 ≤ vec_len tools.old }
+    requires few { vec_len tools.old ≤ 16 }
+    requires rings { C.meaning.tells → (ring : Ring) × HaveRing C.meaning tools.old.items ring }
+    requires free { IsFalse store.vault.stuck }
+    ensures answers { (state : State) → StandsFor C.meaning.opens store.vault.root (D.meaning.view store.vault.disk).files state
+        → Answers D.meaning C.meaning store.vault.disk result.disk tools.old.items tools.new.items
+        (λ ring. SaysOfRequest command (input_of S.meaning input.old input.new) ring state) (said_in result.reply) }
+    ensures safe { (state : State) → StandsFor C.meaning.opens store.vault.root (D.meaning.view store.vault.disk).files state
+        → D.meaning.tells → C.meaning.tells → (ring : Ring) → HaveRing C.meaning tools.old.items ring
+        → (before : List State) → Contains before state
+        → IsSafe C.meaning.opens store.vault.root ring command (input_of S.meaning input.old input.new) before (D.meaning.view store.vault.disk) (D.meaning.view result.disk)
+        (faults_of D.meaning store.vault.disk C.meaning tools.old.items) (faults_of D.meaning result.disk C.meaning tools.new.items) result.reply.status }
+    ensures rings { (ring : Ring) → HaveRing C.meaning tools.old.items ring → HaveRing C.meaning tools.new.items ring }
+    ensures count { vec_len tools.new ≡ vec_len tools.old }
+    ensures causes { HasCauses (faults_of D.meaning store.vault.disk C.meaning tools.old.items)
+        (faults_of D.meaning result.disk C.meaning tools.new.items) result.reply.status }
+    ensures input { HasInputCause (input_of S.meaning input.old input.new) result.reply.status }
+{
+    match take_body(alloc, &command, input) {
+        Ok(body) => answer_turn(alloc, command, body, store, tools),
+        Err(fault) => Answered {
+            reply: refuse_body(alloc, fault),
+            disk: store.into_vault().into_disk(),
+        },
+    }
+}
+
 /// The answer of a command on a vault.
-fn answer_vault<D: Disk + Send, C: Cipher + Send>(
+fn answer_vault<D: Disk + Send, C: Cipher + Send, S: Source>(
     alloc: Global,
     command: Command,
     vault: Vault<D>,
     tools: &mut Vec<C>,
+    input: &mut S,
 ) -> Answered<D>
     requires some { 1 ≤ vec_len tools.old }
     requires few { vec_len tools.old ≤ 16 }
@@ -111,15 +171,20 @@ fn answer_vault<D: Disk + Send, C: Cipher + Send>(
     requires free { IsFalse vault.stuck }
     ensures answers { (files : Files) → StandsForFiles vault.root files (D.meaning.view vault.disk).files
         → Answers D.meaning C.meaning vault.disk result.disk tools.old.items tools.new.items
-        (λ ring. SaysOfCommand C.meaning.opens vault.root files ring command) (said_in result.reply) }
-    ensures rests { D.meaning.tells → Rests (D.meaning.view vault.disk) (D.meaning.view result.disk) }
+        (λ ring. SaysOfCommand C.meaning.opens vault.root files (input_of S.meaning input.old input.new) ring command) (said_in result.reply) }
+    ensures safe { (state : State) → StandsFor C.meaning.opens vault.root (D.meaning.view vault.disk).files state
+        → D.meaning.tells → C.meaning.tells → (ring : Ring) → HaveRing C.meaning tools.old.items ring
+        → (before : List State) → Contains before state
+        → IsSafe C.meaning.opens vault.root ring command (input_of S.meaning input.old input.new) before (D.meaning.view vault.disk) (D.meaning.view result.disk)
+        (faults_of D.meaning vault.disk C.meaning tools.old.items) (faults_of D.meaning result.disk C.meaning tools.new.items) result.reply.status }
     ensures rings { (ring : Ring) → HaveRing C.meaning tools.old.items ring → HaveRing C.meaning tools.new.items ring }
     ensures count { vec_len tools.new ≡ vec_len tools.old }
     ensures causes { HasCauses (faults_of D.meaning vault.disk C.meaning tools.old.items)
         (faults_of D.meaning result.disk C.meaning tools.new.items) result.reply.status }
+    ensures input { HasInputCause (input_of S.meaning input.old input.new) result.reply.status }
 {
     match Store::open(alloc, vault) {
-        StoreOpened::Ready(store) => answer_open(alloc, command, store, tools),
+        StoreOpened::Ready(store) => answer_open(alloc, command, store, tools, input),
         StoreOpened::Refused(fault, vault) => Answered {
             reply: refuse_store(alloc, fault),
             disk: vault.into_disk(),
@@ -127,27 +192,38 @@ fn answer_vault<D: Disk + Send, C: Cipher + Send>(
     }
 }
 
+/// The files of a disk are one of its images: the law of a disk, also of one that goes to other threads.
+fn files_are_an_image<D: Disk>(disk: &D)
+    ensures { D.meaning.tells → IsSound (D.meaning.view disk.now) }
+{}
+
 /// The answer of a command on the store below the root directory.
-fn answer_command<D: Disk + Send, C: Cipher + Send>(
+fn answer_command<D: Disk + Send, C: Cipher + Send, S: Source>(
     alloc: Global,
     command: Command,
     root: &DirPath,
     disk: D,
     tools: &mut Vec<C>,
+    input: &mut S,
 ) -> Answered<D>
     requires some { 1 ≤ vec_len tools.old }
     requires few { vec_len tools.old ≤ 16 }
     requires rings { C.meaning.tells → (ring : Ring) × HaveRing C.meaning tools.old.items ring }
     ensures answers { Answers D.meaning C.meaning disk result.disk tools.old.items tools.new.items
-        (λ ring. SaysOfCommand C.meaning.opens root.now (D.meaning.view disk).files ring command) (said_in result.reply) }
-    ensures any_moment { D.meaning.tells → Leaves (IsOldOrAlike root.now (D.meaning.view disk)) (D.meaning.view disk) (D.meaning.view result.disk) }
+        (λ ring. SaysOfCommand C.meaning.opens root.now (D.meaning.view disk).files (input_of S.meaning input.old input.new) ring command) (said_in result.reply) }
+    ensures safe { D.meaning.tells → C.meaning.tells → (ring : Ring) → HaveRing C.meaning tools.old.items ring
+        → (before : List State) → StandsForOne C.meaning.opens root.now before (D.meaning.view disk)
+        → IsSafe C.meaning.opens root.now ring command (input_of S.meaning input.old input.new) before (D.meaning.view disk) (D.meaning.view result.disk)
+        (faults_of D.meaning disk C.meaning tools.old.items) (faults_of D.meaning result.disk C.meaning tools.new.items) result.reply.status }
     ensures rings { (ring : Ring) → HaveRing C.meaning tools.old.items ring → HaveRing C.meaning tools.new.items ring }
     ensures count { vec_len tools.new ≡ vec_len tools.old }
     ensures causes { HasCauses (faults_of D.meaning disk C.meaning tools.old.items)
         (faults_of D.meaning result.disk C.meaning tools.new.items) result.reply.status }
+    ensures input { HasInputCause (input_of S.meaning input.old input.new) result.reply.status }
 {
+    files_are_an_image(&disk);
     match Vault::open(alloc, disk, root) {
-        VaultOpened::Ready(vault) => answer_vault(alloc, command, vault, tools),
+        VaultOpened::Ready(vault) => answer_vault(alloc, command, vault, tools, input),
         VaultOpened::Refused(fault, disk) => Answered {
             reply: refuse_vault(alloc, root, fault),
             disk,
@@ -156,26 +232,33 @@ fn answer_command<D: Disk + Send, C: Cipher + Send>(
 }
 
 /// The answer to the words of a command line.
-pub(crate) fn answer<D: Disk + Send, C: Cipher + Send>(
+pub(crate) fn answer<D: Disk + Send, C: Cipher + Send, S: Source>(
     alloc: Global,
     words: &[String],
     root: &DirPath,
     disk: D,
     tools: &mut Vec<C>,
+    input: &mut S,
 ) -> Answered<D>
     requires some { 1 ≤ vec_len tools.old }
     requires few { vec_len tools.old ≤ 16 }
     requires rings { C.meaning.tells → (ring : Ring) × HaveRing C.meaning tools.old.items ring }
     ensures answers { Answers D.meaning C.meaning disk result.disk tools.old.items tools.new.items
-        (RunSays (map string_bytes words.now) C.meaning.opens root.now (D.meaning.view disk).files) (said_in result.reply) }
-    ensures any_moment { D.meaning.tells → Leaves (IsOldOrAlike root.now (D.meaning.view disk)) (D.meaning.view disk) (D.meaning.view result.disk) }
+        (RunSays (map string_bytes words.now) C.meaning.opens root.now (D.meaning.view disk).files (input_of S.meaning input.old input.new)) (said_in result.reply) }
+    ensures safe { D.meaning.tells → C.meaning.tells → (ring : Ring) → HaveRing C.meaning tools.old.items ring
+        → (before : List State) → StandsForOne C.meaning.opens root.now before (D.meaning.view disk)
+        → Leaves (IsOneOf C.meaning.opens root.now before) (D.meaning.view disk) (D.meaning.view result.disk)
+        ⊎ ((command : Asked) × (words_in (map string_bytes words.now) ≡ Ok (asks command))
+        × Went C.meaning.opens root.now ring command (input_of S.meaning input.old input.new) before (D.meaning.view disk) (D.meaning.view result.disk)
+        (faults_of D.meaning disk C.meaning tools.old.items) (faults_of D.meaning result.disk C.meaning tools.new.items) result.reply.status) }
     ensures rings { (ring : Ring) → HaveRing C.meaning tools.old.items ring → HaveRing C.meaning tools.new.items ring }
     ensures count { vec_len tools.new ≡ vec_len tools.old }
     ensures causes { HasCauses (faults_of D.meaning disk C.meaning tools.old.items)
         (faults_of D.meaning result.disk C.meaning tools.new.items) result.reply.status }
+    ensures input { HasInputCause (input_of S.meaning input.old input.new) result.reply.status }
 {
     match read_words(alloc, words) {
-        Ok(command) => answer_command(alloc, command, root, disk, tools),
+        Ok(command) => answer_command(alloc, command, root, disk, tools, input),
         Err(WordsFault::Bad { at }) => Answered {
             reply: refuse_words(alloc, at),
             disk,

@@ -2,6 +2,8 @@
 #![tactic(auto)]
 
 mod answers;
+mod body;
+mod laws;
 mod listing;
 mod printing;
 mod reply;
@@ -9,6 +11,7 @@ mod run;
 mod texts;
 mod turns;
 
+pub use laws::{commands_keep, histories_are_safe};
 pub use reply::Reply;
 pub use run::{Ended, gopass};
 pub use turns::{Request, turn};

@@ -24,6 +24,10 @@ fn status_of(refusal: &Refusal) -> u8
 {
     match refusal {
         Refusal::NotFound | Refusal::IsFolder => 3,
+        Refusal::Exists => 4,
+        Refusal::NoRule => 7,
+        Refusal::UnknownId(_) => 9,
+        Refusal::Full(_) => 10,
         Refusal::NoKey(_) | Refusal::NotSealed(_) => 8,
         Refusal::Tool(_) => 11,
         Refusal::Disk => 12,

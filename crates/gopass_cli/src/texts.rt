@@ -64,6 +64,10 @@ pub(crate) fn text_of(alloc: Global, refusal: &Refusal, asked: &str) -> Result<S
     match refusal {
         Refusal::NotFound => not_in_the_store(alloc, asked),
         Refusal::IsFolder => joined(alloc, asked, " is a folder"),
+        Refusal::Exists => joined(alloc, asked, " is there already"),
+        Refusal::NoRule => joined(alloc, "no rule for ", asked),
+        Refusal::UnknownId(id) => joined(alloc, id.text(), " is not known to the tool"),
+        Refusal::Full(limit) => String::from_str(alloc, limit_passed(*limit)),
         Refusal::NoKey(name) => joined(alloc, name.text(), ": no key"),
         Refusal::NotSealed(name) => joined(alloc, name.text(), ": not sealed"),
         Refusal::Tool(name) => joined(alloc, name.text(), ": the tool failed"),

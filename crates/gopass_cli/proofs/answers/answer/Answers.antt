@@ -1,4 +1,4 @@
-use Rattle.std.proofs.Common.{refl, sym, subst, map, arith}
+use Rattle.std.proofs.Common.{inl, inr, ⊎_elim, refl, sym, subst, map, arith}
 use Rattle.std.specs.Prelude.{ℕ, Result, Ok, Err, string_bytes}
 use Rattle.command_words.specs.declared.reading.WordsFault.{WordsFault}
 use Rattle.command_words.specs.Said.{Said as Asked, said as asks}
@@ -6,35 +6,49 @@ use Rattle.command_words.specs.Words.{words_in}
 use Rattle.command_words.specs.Reads.{Reads}
 use Rattle.store_core.specs.Said.{refused}
 use Rattle.store_core.specs.Texts.{bad_words}
+use Rattle.gopass_cli.specs.Bodies.{input_of}
 use Rattle.gopass_cli.specs.Opening.{SaysOfCommand}
 use Rattle.gopass_cli.specs.Replies.{said_in}
 use Rattle.gopass_cli.specs.Run.{Runs, RunSays, SaysOfWords, faults_of}
 use Rattle.gopass_cli.proofs.RunLemmas.{runs_meant, runs_unsaid, runs_weaker}
+use Rattle.gopass_cli.proofs.SafeLemmas.{same_safe}
 use Rattle.gopass_cli.proofs.answers.answer.Goals as goal
 
 pub returns-in-Ok-clause-answers : goal.returns-in-Ok-clause-answers
 returns-in-Ok-clause-answers g c told tells ring have =
     let opens = g.C.Cipher.meaning.opens in
+    let input = input_of g.S.Source.meaning c.args.input.now c.answer_command.new.input in
     let root = c.args.root.now in
     let files = (g.D.Disk.meaning.view c.args.disk).files in
     let old = faults_of g.D.Disk.meaning c.args.disk g.C.Cipher.meaning c.args.tools.now.items in
     let new = faults_of g.D.Disk.meaning c.answer_command.result.disk g.C.Cipher.meaning c.answer_command.new.tools.items in
     let said = said_in c.answer_command.result.reply in
-    subst (λ (asked : Result Asked ℕ). Runs (SaysOfWords asked opens root files ring) old new said) (sym c.in-Ok.ensures)
-    (runs_weaker (SaysOfCommand opens root files ring c.in-Ok.command) (SaysOfWords (Ok (asks c.in-Ok.command)) opens root files ring) old new said
+    subst (λ (asked : Result Asked ℕ). Runs (SaysOfWords asked opens root files input ring) old new said) (sym c.in-Ok.ensures)
+    (runs_weaker (SaysOfCommand opens root files input ring c.in-Ok.command) (SaysOfWords (Ok (asks c.in-Ok.command)) opens root files input ring) old new said
     (λ events h. (c.in-Ok.command, refl, h)) (c.answer_command.ensures.answers told tells ring have))
 
 pub returns-in-Err-Bad-clause-answers : goal.returns-in-Err-Bad-clause-answers
 returns-in-Err-Bad-clause-answers g c told tells ring have =
     let opens = g.C.Cipher.meaning.opens in
+    let input = input_of g.S.Source.meaning c.args.input.now c.args.input.now in
     let root = c.args.root.now in
     let files = (g.D.Disk.meaning.view c.args.disk).files in
     let now = faults_of g.D.Disk.meaning c.args.disk g.C.Cipher.meaning c.args.tools.now.items in
     let bad = subst (λ (fault : WordsFault). Reads (Err fault) (words_in (map string_bytes c.args.words.now))) c.in-Err-Bad.field-0-is c.in-Err-Bad.ensures in
-    subst (λ (asked : Result Asked ℕ). Runs (SaysOfWords asked opens root files ring) now now (said_in c.refuse_words.result)) (sym bad)
-    (runs_meant (SaysOfWords (Err c.in-Err-Bad.at) opens root files ring) now now (omega arith) (refused 2 (bad_words c.in-Err-Bad.at)) (said_in c.refuse_words.result) refl c.refuse_words.ensures)
+    subst (λ (asked : Result Asked ℕ). Runs (SaysOfWords asked opens root files input ring) now now (said_in c.refuse_words.result)) (sym bad)
+    (runs_meant (SaysOfWords (Err c.in-Err-Bad.at) opens root files input ring) now now (omega arith) (refused 2 (bad_words c.in-Err-Bad.at)) (said_in c.refuse_words.result) (refl, record { left = refl; faults = refl }) c.refuse_words.ensures)
 
 pub returns-in-Err-NoMemory-clause-answers : goal.returns-in-Err-NoMemory-clause-answers
 returns-in-Err-NoMemory-clause-answers g c told tells ring have =
     let now = faults_of g.D.Disk.meaning c.args.disk g.C.Cipher.meaning c.args.tools.now.items in
-    runs_unsaid (RunSays (map string_bytes c.args.words.now) g.C.Cipher.meaning.opens c.args.root.now (g.D.Disk.meaning.view c.args.disk).files ring) now now (omega arith) (said_in c.no_memory.result) c.no_memory.ensures
+    runs_unsaid (RunSays (map string_bytes c.args.words.now) g.C.Cipher.meaning.opens c.args.root.now (g.D.Disk.meaning.view c.args.disk).files (input_of g.S.Source.meaning c.args.input.now c.args.input.now) ring) now now (omega arith) (said_in c.no_memory.result) c.no_memory.ensures
+
+pub returns-in-Ok-clause-safe : goal.returns-in-Ok-clause-safe
+returns-in-Ok-clause-safe g c told tells ring have before stand =
+    ⊎_elim (λ run. inl run) (λ went. inr (c.in-Ok.command, c.in-Ok.ensures, went)) (c.answer_command.ensures.safe told tells ring have before stand)
+
+pub returns-in-Err-Bad-clause-safe : goal.returns-in-Err-Bad-clause-safe
+returns-in-Err-Bad-clause-safe g c told tells ring have before stand = inl (same_safe g.C.Cipher.meaning.opens c.args.root.now before (g.D.Disk.meaning.view c.args.disk) stand)
+
+pub returns-in-Err-NoMemory-clause-safe : goal.returns-in-Err-NoMemory-clause-safe
+returns-in-Err-NoMemory-clause-safe g c told tells ring have before stand = inl (same_safe g.C.Cipher.meaning.opens c.args.root.now before (g.D.Disk.meaning.view c.args.disk) stand)

@@ -34,7 +34,7 @@ returns-in-Err-Bad-clause-planned g c told tells ring have start s =
     let now = moment_of store (all_tools g.C.Cipher.meaning c.args.tools.now.items) in
     let bad = c.in-Err-Bad.bad in
     let fault = name_some word bad (c.in-Err-Bad.ensures.fault bad (ap Err c.in-Err-Bad.field-0-is)) in
-    only_answers g.C.Cipher.meaning.opens store.vault.root (λ events. unless_bad (name_fault word) word (plan_show ring word start events)) start now s
+    only_answers g.C.Cipher.meaning.opens store.vault.root (λ events. unless_bad (name_fault word) word (plan_show ring word start events)) start now s (store.vault.at_rest c.requires.free told)
     (refused 2 (bad_name bad.at word)) (said_in c.refuse_name.result) (bad_word (name_fault word) word (plan_show ring word start calm) bad fault) c.refuse_name.ensures
 
 pub returns-in-Err-NoMemory-clause-planned : goal.returns-in-Err-NoMemory-clause-planned
@@ -44,4 +44,4 @@ returns-in-Err-NoMemory-clause-planned g c told tells ring have start s =
     let opens = g.C.Cipher.meaning.opens in
     let now = moment_of store (all_tools g.C.Cipher.meaning c.args.tools.now.items) in
     subst (λ (said : Said). Performs opens store.vault.root (λ events. unless_bad (name_fault word) word (plan_show ring word start events)) start now now said) (sym c.no_memory.ensures)
-    (wants_first opens store.vault.root (λ events. unless_bad (name_fault word) word (plan_show ring word start events)) start now s)
+    (wants_first opens store.vault.root (λ events. unless_bad (name_fault word) word (plan_show ring word start events)) start now s (store.vault.at_rest c.requires.free told))

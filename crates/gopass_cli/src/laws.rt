@@ -1,0 +1,31 @@
+//! What runs after one another leave.
+
+ghost use Rattle.std.specs.Prelude.{List, Option};
+ghost use Rattle.gopass_base.specs.Text.{Text};
+ghost use Rattle.cipher_port.specs.Tool.{Opens, Ring};
+ghost use Rattle.store_core.specs.State.{State};
+ghost use Rattle.store_core.specs.Events.{Events};
+ghost use Rattle.store_core.specs.Kept.{IsKept, AreAllKept};
+ghost use Rattle.gopass_cli.specs.History.{History};
+ghost use Rattle.gopass_cli.specs.Plan.{plan_of};
+ghost use Rattle.gopass_cli.specs.Safe.{StandsForOne};
+
+use command_words::Command;
+use disk_model::Disk;
+use mount_table::DirPath;
+
+/// A command keeps each secret made for exactly the ids that govern it, in each state that it passes.
+pub fn commands_keep(command: &Command)
+    ensures { (ring : Ring) (body : Option Text) (state : State) (events : Events) → IsKept state → AreAllKept (plan_of ring command.now body state events).states }
+{}
+
+/// Runs after one another keep the crash promise, each on the disk that the last one handed back or
+/// on what a crash of it left: what a crash now would leave stands for one of the states that may be
+/// found, and in each of these each secret is made for exactly the ids that govern it, where it was
+/// so at first.
+pub fn histories_are_safe<D: Disk>(root: &DirPath)
+    ensures stands { D.meaning.tells → (opens : Opens) (first states : List State) (disk : D)
+        → History D.meaning opens root.now first states disk → StandsForOne opens root.now states (D.meaning.view disk) }
+    ensures kept { (opens : Opens) (first states : List State) (disk : D)
+        → History D.meaning opens root.now first states disk → AreAllKept first → AreAllKept states }
+{}
