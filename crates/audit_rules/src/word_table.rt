@@ -18,7 +18,7 @@ pub struct WordRow {
 }
 
 /// The value of a constant array of `WordRow`, from words of at most 16 bytes and their codes, as
-/// `word_table![b"ls" => 1, b"show" => 2]`.
+/// `word_table![b"ls" => 1, b"show" => 2]`. A longer word is cut to its first 16 bytes.
 #[macro_export]
 macro_rules! word_table {
     ($($word:literal => $code:expr),* $(,)?) => {

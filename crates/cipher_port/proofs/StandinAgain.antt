@@ -16,7 +16,8 @@ use Rattle.std.proofs.lemmas.List.Sums.{AllPass-from_list_all}
 use Rattle.hex.specs.Hex.{IsBytes, decode_of, encode_lower, encode_with, lower_digits}
 use Rattle.hex.proofs.HexLemmas.{decode_of-encode_lower, length-encode_with}
 use Rattle.gopass_base.specs.Text.{Text}
-use Rattle.recipient_files.specs.Ids.{Ids, IsId, IsRising, IsRecipients}
+use Rattle.gopass_base.specs.Order.{IsRising}
+use Rattle.recipient_files.specs.Ids.{Ids, IsId, IsRecipients}
 use Rattle.cipher_port.specs.Tool.{Content, made_of}
 use Rattle.cipher_port.specs.StandinText.{IsStandinText, to_line}
 use Rattle.recipient_files.specs.IdText.{id_at}

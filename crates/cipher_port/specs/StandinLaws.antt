@@ -22,7 +22,8 @@ use Rattle.hex.proofs.Pairs.{cons_byte, decode_pairs-ok_pair}
 use Rattle.hex.proofs.HexLemmas.{decode_pairs-ok, length-encode_with}
 use Rattle.gopass_base.specs.Text.{Text}
 use Rattle.gopass_base.specs.Lines.{pieces_of}
-use Rattle.recipient_files.specs.Ids.{Ids, IsId, IsRising, IsRecipients}
+use Rattle.gopass_base.specs.Order.{IsRising}
+use Rattle.recipient_files.specs.Ids.{Ids, IsId, IsRecipients}
 use Rattle.recipient_files.specs.IdText.{is_id, id_at}
 use Rattle.recipient_files.proofs.IdLemmas.{is_id_tells}
 use Rattle.cipher_port.specs.Tool.{Content, IsSealing, made_of}

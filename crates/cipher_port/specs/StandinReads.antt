@@ -1,6 +1,7 @@
 -- What the readers of the stand-in's parts answer.
 use Rattle.std.specs.Prelude.{◌≡◌, ◌≤◌, length, All, Option, None, Some, Result, Ok, Err}
-use Rattle.recipient_files.specs.Ids.{Ids, IsId, IsRising}
+use Rattle.gopass_base.specs.Order.{IsRising}
+use Rattle.recipient_files.specs.Ids.{Ids, IsId}
 use Rattle.cipher_port.specs.declared.standin.StandinFault.{StandinFault}
 use Rattle.cipher_port.specs.declared.standin.StandinFault.TheVariants.{NotSealed, NoMemory}
 

@@ -41,8 +41,8 @@ abbrev pub first_unknown : Ring → Ids → Option ℕ
 first_unknown ring ids = position (λ id. not (is_among ring.known id)) ids
 
 -- whether the tool has the key of one of the ids
-abbrev pub holds_one_of : Ring → Ids → Bool
-holds_one_of ring ids = list_any (is_among ring.held) ids
+abbrev pub has_key_of : Ring → Ids → Bool
+has_key_of ring ids = list_any (is_among ring.held) ids
 
 -- bytes past the limit open to nothing, and what is opened keeps its limits
 pub record IsSealing (bytes : Text) (content : Option Content) : Type 0 where
@@ -59,17 +59,17 @@ Seals opens ring content (Err seal.NoMemory) = Unit {0}
 
 -- what `whom` answers of bytes with this content: its ids, and `NotSealed` where there is no content; a failed call and
 -- want of memory may stand for both
-abbrev pub Names : Option Content → Result Ids WhomFault → Type 0
-Names content (Ok ids) = (c : Content) × (content ≡ Some c) × (c.to ≡ ids)
-Names content (Err whom.NotSealed) = content ≡ None
-Names content (Err whom.Failed) = Unit {0}
-Names content (Err whom.NoMemory) = Unit {0}
+abbrev pub TellsIds : Option Content → Result Ids WhomFault → Type 0
+TellsIds content (Ok ids) = (c : Content) × (content ≡ Some c) × (c.to ≡ ids)
+TellsIds content (Err whom.NotSealed) = content ≡ None
+TellsIds content (Err whom.Failed) = Unit {0}
+TellsIds content (Err whom.NoMemory) = Unit {0}
 
 -- what `open` answers of bytes with this content: the body where a key is held, `NoKey` where none is, `NotSealed`
 -- where there is no content; a failed call and want of memory may stand for each of these
 abbrev pub Unseals : {A : Type 0} → Option Content → Ring → Result (Vec ℕ A) UnsealFault → Type 0
-Unseals content ring (Ok body) = (c : Content) × (content ≡ Some c) × (c.body ≡ body.items) × (holds_one_of ring c.to ≡ true)
-Unseals content ring (Err NoKey) = (c : Content) × (content ≡ Some c) × (holds_one_of ring c.to ≡ false)
+Unseals content ring (Ok body) = (c : Content) × (content ≡ Some c) × (c.body ≡ body.items) × (has_key_of ring c.to ≡ true)
+Unseals content ring (Err NoKey) = (c : Content) × (content ≡ Some c) × (has_key_of ring c.to ≡ false)
 Unseals content ring (Err NotSealed) = content ≡ None
 Unseals content ring (Err Failed) = Unit {0}
 Unseals content ring (Err NoMemory) = Unit {0}

@@ -3,7 +3,7 @@
 ghost use Rattle.std.specs.Prelude.{◌≡◌, ℕ, List, length, ◌<◌, ◌≤◌, IfOk, Err, vec_len};
 ghost use Rattle.gopass_base.specs.Text.{Text};
 ghost use Rattle.gopass_base.specs.Faults.{HasCause, counted};
-ghost use Rattle.cipher_port.specs.Tool.{ToolMeaning, Seals, Unseals, Names, IsSealing, made_of};
+ghost use Rattle.cipher_port.specs.Tool.{ToolMeaning, Seals, Unseals, TellsIds, IsSealing, made_of};
 
 use crate::Recipients;
 use gopass_base::{Failed, NoMemory};
@@ -112,7 +112,7 @@ pub trait Cipher {
 
     /// For whom the bytes are sealed.
     fn whom(&mut self, alloc: Global, sealed: &[u8]) -> Result<Recipients, WhomFault>
-        ensures names { meaning.tells → Names (meaning.opens sealed.now) result }
+        ensures names { meaning.tells → TellsIds (meaning.opens sealed.now) result }
         ensures ring { meaning.ring self.new ≡ meaning.ring self.old }
         ensures calls { meaning.calls self.new ≡ counted (meaning.calls self.old) }
         ensures cause { HasCause (meaning.faults self.old) (meaning.faults self.new) (result ≡ Err WhomFault.Failed) };

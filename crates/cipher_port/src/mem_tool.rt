@@ -5,7 +5,7 @@ ghost use Rattle.std.specs.List.{list_any};
 ghost use Rattle.gopass_base.specs.Calls.{Calls, no_calls, next_calls};
 ghost use Rattle.gopass_base.specs.Faults.{HasCause};
 ghost use Rattle.recipient_files.specs.Ids.{is_among};
-ghost use Rattle.cipher_port.specs.Tool.{Ring, Seals, Unseals, Names, made_of};
+ghost use Rattle.cipher_port.specs.Tool.{Ring, Seals, Unseals, TellsIds, made_of};
 ghost use Rattle.cipher_port.specs.Standin.{standin_content};
 
 use crate::{
@@ -114,7 +114,7 @@ impl Cipher for MemTool {
     }
 
     fn whom(&mut self, alloc: Global, sealed: &[u8]) -> Result<Recipients, WhomFault>
-        ensures names { Names (standin_content sealed.now) result }
+        ensures names { TellsIds (standin_content sealed.now) result }
         ensures ring { self.new.ring ≡ self.old.ring }
         ensures calls { self.new.calls ≡ next_calls self.old.calls }
         ensures fails { result ≡ Err WhomFault.Failed ↔ Contains self.old.calls.failing self.old.calls.made }

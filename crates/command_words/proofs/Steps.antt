@@ -1,6 +1,7 @@
 -- One word more of a list that is read by its places.
-use Rattle.std.proofs.Common.{◌≡◌, ℕ, ◌+◌, ◌<◌, nat_lt, not, refl, Bool, true, false, List, [], ◌∷◌, ◌++◌, length, take, drop, get_or, map, sym, ap, subst, ◌∙◌, arith}
+use Rattle.std.proofs.Common.{◌≡◌, ℕ, ◌+◌, ◌<◌, nat_lt, not, Bool, true, false, List, [], ◌∷◌, ◌++◌, length, take, drop, get_or, map, sym, ap, subst, ◌∙◌, arith}
 use Rattle.std.proofs.lemmas.List.{take_more, drop_more, map-append, length-map}
+use Rattle.std.proofs.lemmas.Bool.{not-false}
 use Rattle.std.proofs.lemmas.Bool.Decides.{nat_tests}
 use Rattle.gopass_base.specs.Text.{Text}
 use Rattle.command_words.specs.declared.options.Flag.{Flag}
@@ -39,9 +40,5 @@ counted f items form flags number kind kind' tested answer is so same turned =
 -- there is room for one plain word more
 pub room : {A : Type 0} (f : A → Text) (items : List A) (form : Form) (flags : Flags) → is_bad form flags (length (map f items)) Plain ≡ false → length items < form.most
 room f items form flags good =
-    let below : nat_lt (length (map f items)) form.most ≡ true = not_false (nat_lt (length (map f items)) form.most) good in
+    let below : nat_lt (length (map f items)) form.most ≡ true = not-false (nat_lt (length (map f items)) form.most) good in
     grind (arith, nat_tests, length-map items f)
-  where
-    not_false : (b : Bool) → not b ≡ false → b ≡ true
-    not_false true e = refl
-    not_false false e = absurd (cc)

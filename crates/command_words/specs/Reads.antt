@@ -7,14 +7,14 @@ use Rattle.command_words.specs.declared.reading.WordsFault.{WordsFault}
 use Rattle.command_words.specs.declared.reading.WordsFault.TheVariants.{Bad, NoMemory}
 use Rattle.command_words.specs.declared.verb.Form.{Form}
 use Rattle.command_words.specs.Options.{no_flags}
-use Rattle.command_words.specs.Said.{Said, said}
+use Rattle.command_words.specs.Said.{Asked, asked_by}
 use Rattle.command_words.specs.Words.{first_bad, given, options, plain_words}
 
 -- the command that the words say, or the place of the first that is bad
-abbrev pub Reads : Result Command WordsFault → Result Said ℕ → Type 0
-Reads (Ok command) words = words ≡ Ok (said command)
-Reads (Err (Bad at)) words = words ≡ Err at
-Reads (Err NoMemory) words = Unit {0}
+abbrev pub ReadsWords : Result Command WordsFault → Result Asked ℕ → Type 0
+ReadsWords (Ok command) words = words ≡ Ok (asked_by command)
+ReadsWords (Err (Bad at)) words = words ≡ Err at
+ReadsWords (Err NoMemory) words = Unit {0}
 
 pub record IsSorted (sorting : Sorting) (form : Form) (words : List Text) : Type 0 where
   pub good : first_bad form [] words ≡ None

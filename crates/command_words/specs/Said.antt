@@ -10,19 +10,19 @@ use Rattle.command_words.specs.declared.command.Command.{Command}
 use Rattle.command_words.specs.declared.command.Command.TheVariants as command
 
 -- which command it is, its options, and its plain words in their order
-pub record Said : Type 0 where
+pub record Asked : Type 0 where
   pub verb : Verb
   pub flags : Flags
   pub plain : List Text
 
 -- what a command says
-abbrev pub said : Command → Said
-said (command.Find text) = record { verb = Find; flags = no_flags; plain = string_bytes text ∷ [] }
-said (command.Insert name force multi) = record { verb = Insert; flags = record no_flags { force = force; multi = multi }; plain = string_bytes name ∷ [] }
-said (command.Ls folder flat) = record { verb = Ls; flags = record no_flags { flat = flat }; plain = map string_bytes (option_to_list folder) }
-said command.Mounts = record { verb = Mounts; flags = no_flags; plain = [] }
-said command.Recipients = record { verb = Recipients; flags = no_flags; plain = [] }
-said (command.Show name) = record { verb = Show; flags = no_flags; plain = string_bytes name ∷ [] }
+abbrev pub asked_by : Command → Asked
+asked_by (command.Find text) = record { verb = Find; flags = no_flags; plain = string_bytes text ∷ [] }
+asked_by (command.Insert name force multi) = record { verb = Insert; flags = record no_flags { force = force; multi = multi }; plain = string_bytes name ∷ [] }
+asked_by (command.Ls folder flat) = record { verb = Ls; flags = record no_flags { flat = flat }; plain = map string_bytes (option_to_list folder) }
+asked_by command.Mounts = record { verb = Mounts; flags = no_flags; plain = [] }
+asked_by command.Recipients = record { verb = Recipients; flags = no_flags; plain = [] }
+asked_by (command.Show name) = record { verb = Show; flags = no_flags; plain = string_bytes name ∷ [] }
 
 -- those of the options that are among these
 abbrev pub only : Flags → Flags → Flags

@@ -3,7 +3,7 @@
 ghost use Rattle.std.specs.Prelude.{◌≡◌, ◌≤◌, ◌∷◌, [], vec_len, map, string_bytes};
 ghost use Rattle.std.specs.Option.{option_to_list};
 ghost use Rattle.command_words.specs.Forms.{form_of};
-ghost use Rattle.command_words.specs.Said.{only, said};
+ghost use Rattle.command_words.specs.Said.{only, asked_by};
 
 use crate::options::Flags;
 use crate::verb::Verb;
@@ -42,7 +42,7 @@ pub(crate) fn build(verb: Verb, flags: Flags, plain: Vec<String>) -> Command
     requires least { (form_of verb).least ≤ vec_len plain }
     requires most { vec_len plain ≤ (form_of verb).most }
     requires taken { only (form_of verb).flags flags ≡ flags }
-    ensures { said result ≡ record { verb = verb; flags = flags; plain = map string_bytes plain.items } }
+    ensures { asked_by result ≡ record { verb = verb; flags = flags; plain = map string_bytes plain.items } }
 {
     match verb {
         Verb::Find => Command::Find { text: one(plain) },

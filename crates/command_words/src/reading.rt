@@ -2,9 +2,9 @@
 
 ghost use Rattle.std.specs.Prelude.{◌≡◌, ◌≤◌, vec_len, map, string_bytes, IfOk};
 ghost use Rattle.command_words.specs.Forms.{form_of};
-ghost use Rattle.command_words.specs.Said.{only, said};
+ghost use Rattle.command_words.specs.Said.{only, asked_by};
 ghost use Rattle.command_words.specs.Words.{is_bad, words_in};
-ghost use Rattle.command_words.specs.Reads.{Reads, Sorts};
+ghost use Rattle.command_words.specs.Reads.{ReadsWords, Sorts};
 ghost use Rattle.command_words.specs.declared.reading.WordsFault.TheVariants.{NoMemory};
 
 use crate::command::{Command, build};
@@ -88,7 +88,7 @@ fn sort(alloc: Global, verb: Verb, words: &[String]) -> Result<Sorting, WordsFau
 /// given before, or a plain word too many. Where no word is bad and the words end too early, the
 /// place is their number.
 pub fn read_words(alloc: Global, words: &[String]) -> Result<Command, WordsFault>
-    ensures { Reads result (words_in (map string_bytes words.now)) }
+    ensures { ReadsWords result (words_in (map string_bytes words.now)) }
 {
     let Some((first, rest)) = words.split_first() else {
         return Err(WordsFault::Bad { at: 0 });

@@ -1,6 +1,6 @@
 //! The commands' words, and what each command takes.
 
-ghost use Rattle.std.specs.Prelude.{◌≡◌};
+ghost use Rattle.std.specs.Prelude.{◌≡◌, false};
 ghost use Rattle.command_words.specs.Forms.{form_of, verb_at, verb_with};
 
 use crate::options::{Flag, Flags};
@@ -63,47 +63,30 @@ pub(crate) fn verb_of(word: &str) -> Option<Verb>
     }
 }
 
+/// A command that takes so many plain words and these options, and no subcommand.
+fn words(least: usize, most: usize, flags: Flags) -> Form
+    ensures { result ≡ record { least = least; most = most; flags = flags; has_subcommands = false } }
+{
+    Form {
+        least,
+        most,
+        flags,
+        has_subcommands: false,
+    }
+}
+
 /// What the command takes.
 pub(crate) fn form_of(verb: Verb) -> Form
     ensures { result ≡ form_of verb }
 {
     let none = Flags::none();
     match verb {
-        Verb::Find => Form {
-            least: 1,
-            most: 1,
-            flags: none,
-            has_subcommands: false,
-        },
-        Verb::Insert => Form {
-            least: 1,
-            most: 1,
-            flags: none.with(Flag::Force).with(Flag::Multi),
-            has_subcommands: false,
-        },
-        Verb::Ls => Form {
-            least: 0,
-            most: 1,
-            flags: none.with(Flag::Flat),
-            has_subcommands: false,
-        },
-        Verb::Mounts => Form {
-            least: 0,
-            most: 0,
-            flags: none,
+        Verb::Find | Verb::Show => words(1, 1, none),
+        Verb::Insert => words(1, 1, none.with(Flag::Force).with(Flag::Multi)),
+        Verb::Ls => words(0, 1, none.with(Flag::Flat)),
+        Verb::Mounts | Verb::Recipients => Form {
             has_subcommands: true,
-        },
-        Verb::Recipients => Form {
-            least: 0,
-            most: 0,
-            flags: none,
-            has_subcommands: true,
-        },
-        Verb::Show => Form {
-            least: 1,
-            most: 1,
-            flags: none,
-            has_subcommands: false,
+            ..words(0, 0, none)
         },
     }
 }

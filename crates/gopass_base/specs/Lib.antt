@@ -2,3 +2,4 @@ pub mod Text
 pub mod Faults
 pub mod Calls
 pub mod Lines
+pub mod Order

@@ -9,4 +9,4 @@ mod text;
 pub use answers::{Failed, NoMemory};
 pub use call_log::CallLog;
 pub use lines::cut;
-pub use text::is_printable;
+pub use text::{as_text, is_printable};

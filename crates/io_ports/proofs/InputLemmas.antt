@@ -5,9 +5,9 @@ use Rattle.std.proofs.lemmas.Bool.Decides.{eqb_tells}
 use Rattle.std.proofs.lemmas.List.Elements.{All-nil, All-cons, All-head, All-tail}
 use Rattle.gopass_base.proofs.LineLemmas.{both, cut_is}
 use Rattle.gopass_base.specs.Text.{Text}
-use Rattle.gopass_base.specs.Lines.{cut_at, behind}
+use Rattle.gopass_base.specs.Lines.{Lacks, cut_at, with_first}
 use Rattle.io_ports.specs.Source.{Told, Came, CameNext}
-use Rattle.io_ports.specs.Input.{ReadsAll, ReadsLine, IsLine, HasNoLf, StandsFirst, first_line, content_of, line_before, content_before}
+use Rattle.io_ports.specs.Input.{ReadsAll, ReadsLine, IsLine, StandsFirst, first_line, content_of, line_before, content_before}
 use Rattle.io_ports.specs.declared.input.InputFault.TheVariants.{Failed, Long, NoMemory}
 
 pub told_two : (P Q R : Text → Text → Type 0) → ((a b c : Text) → P a b → Q b c → R a c) → (x y z : Option Text) → Told P x y → Told Q y z → Told R x z
@@ -42,48 +42,48 @@ all_long max n xs into x y z short more few fits first then = told_two _ _ _ ste
 
 -- the cut of a byte and those behind it, by whether the byte is an LF
 abbrev cut_from : ℕ → Text → Bool → Option (Text × Text)
-cut_from b bs is_lf = cond is_lf (Some ([], bs)) (behind b (cut_at 10 bs))
+cut_from b bs is_lf = cond is_lf (Some ([], bs)) (with_first b (cut_at 10 bs))
 
 -- the first cut behind bytes without an LF
 cut_behind : (xs ys : Text) → cut_at 10 xs ≡ None → (first_line (xs ++ ys) ≡ (xs ++ (first_line ys).0, (first_line ys).1)) × (content_of (xs ++ ys) ≡ xs ++ content_of ys)
 cut_behind [] ys none = (refl, refl)
 cut_behind (b ∷ xs) ys none = elim (eqb_tells b 10) [
   | inl (t, same) ↦ (let bad : ◌≡◌ {A = Option (Text × Text)} (Some ([], xs)) None = sym (ap (cut_from b xs) t) ∙ none in absurd (cc))
-  | inr (t, other) ↦ (let rest : behind b (cut_at 10 xs) ≡ None = sym (ap (cut_from b xs) t) ∙ none in
+  | inr (t, other) ↦ (let rest : with_first b (cut_at 10 xs) ≡ None = sym (ap (cut_from b xs) t) ∙ none in
       let ih = cut_behind xs ys (not_behind (cut_at 10 xs) rest) in
-      let cut : cut_at 10 ((b ∷ xs) ++ ys) ≡ behind b (cut_at 10 (xs ++ ys)) = ap (cut_from b (xs ++ ys)) t in (
+      let cut : cut_at 10 ((b ∷ xs) ++ ys) ≡ with_first b (cut_at 10 (xs ++ ys)) = ap (cut_from b (xs ++ ys)) t in (
         ap (line_before (b ∷ (xs ++ ys))) cut ∙ one_more (xs ++ ys) (cut_at 10 (xs ++ ys)) ∙ ap (λ (l : Text × Text). (b ∷ l.0, l.1)) ih.0,
         ap (content_before (b ∷ (xs ++ ys))) cut ∙ one_byte (xs ++ ys) (cut_at 10 (xs ++ ys)) ∙ ap (λ l. b ∷ l) ih.1,
       ))
 ]
   where
-    not_behind : (r : Option (Text × Text)) → behind b r ≡ None → r ≡ None
+    not_behind : (r : Option (Text × Text)) → with_first b r ≡ None → r ≡ None
     not_behind None e = refl
     not_behind (Some cut) e = absurd (cc)
 
-    one_more : (t : Text) (r : Option (Text × Text)) → line_before (b ∷ t) (behind b r) ≡ (b ∷ (line_before t r).0, (line_before t r).1)
+    one_more : (t : Text) (r : Option (Text × Text)) → line_before (b ∷ t) (with_first b r) ≡ (b ∷ (line_before t r).0, (line_before t r).1)
     one_more t None = refl
     one_more t (Some cut) = refl
 
-    one_byte : (t : Text) (r : Option (Text × Text)) → content_before (b ∷ t) (behind b r) ≡ b ∷ content_before t r
+    one_byte : (t : Text) (r : Option (Text × Text)) → content_before (b ∷ t) (with_first b r) ≡ b ∷ content_before t r
     one_byte t None = refl
     one_byte t (Some cut) = refl
 
 -- a byte that is no LF, and what stands behind it
 other_first : (byte : ℕ) (ys : Text) → eqb byte 10 ≡ false → (1 ≤ length (first_line (byte ∷ ys)).0) × (1 ≤ length (content_of (byte ∷ ys))) × (cut_at 10 (byte ∷ []) ≡ None)
 other_first byte ys off =
-    let t : cut_at 10 (byte ∷ ys) ≡ behind byte (cut_at 10 ys) = ap (cut_from byte ys) off in
+    let t : cut_at 10 (byte ∷ ys) ≡ with_first byte (cut_at 10 ys) = ap (cut_from byte ys) off in
     let lone : cut_at 10 (byte ∷ []) ≡ None = ap (cut_from byte []) off in (
       subst (λ (r : Option (Text × Text)). 1 ≤ length (line_before (byte ∷ ys) r).0) (sym t) (long_line (cut_at 10 ys)),
       subst (λ (r : Option (Text × Text)). 1 ≤ length (content_before (byte ∷ ys) r)) (sym t) (long_content (cut_at 10 ys)),
       lone,
     )
   where
-    long_line : (r : Option (Text × Text)) → 1 ≤ length (line_before (byte ∷ ys) (behind byte r)).0
+    long_line : (r : Option (Text × Text)) → 1 ≤ length (line_before (byte ∷ ys) (with_first byte r)).0
     long_line None = omega arith
     long_line (Some cut) = omega arith
 
-    long_content : (r : Option (Text × Text)) → 1 ≤ length (content_before (byte ∷ ys) (behind byte r))
+    long_content : (r : Option (Text × Text)) → 1 ≤ length (content_before (byte ∷ ys) (with_first byte r))
     long_content None = omega arith
     long_content (Some cut) = omega arith
 
@@ -98,12 +98,12 @@ pub none_behind : (xs : Text) (byte : ℕ) → cut_at 10 xs ≡ None → byte �
 none_behind [] byte none off = (other_first byte [] (ne_eqb byte 10 off)).2
 none_behind (b ∷ xs) byte none off = elim (eqb_tells b 10) [
   | inl (t, same) ↦ (let bad : ◌≡◌ {A = Option (Text × Text)} (Some ([], xs)) None = sym (ap (cut_from b xs) t) ∙ none in absurd (cc))
-  | inr (t, other) ↦ (let rest : behind b (cut_at 10 xs) ≡ None = sym (ap (cut_from b xs) t) ∙ none in
+  | inr (t, other) ↦ (let rest : with_first b (cut_at 10 xs) ≡ None = sym (ap (cut_from b xs) t) ∙ none in
       ap (cut_from b (xs ++ byte ∷ [])) t
-      ∙ ap (behind b) (none_behind xs byte (not_behind (cut_at 10 xs) rest) off))
+      ∙ ap (with_first b) (none_behind xs byte (not_behind (cut_at 10 xs) rest) off))
 ]
   where
-    not_behind : (r : Option (Text × Text)) → behind b r ≡ None → r ≡ None
+    not_behind : (r : Option (Text × Text)) → with_first b r ≡ None → r ≡ None
     not_behind None e = refl
     not_behind (Some cut) e = absurd (cc)
 
@@ -164,15 +164,15 @@ line_long max byte xs x y z none full off first then = told_two _ _ _ step x y z
         behind_these = sym (ap (λ t. drop (max + 1) t) split ∙ ap (λ n. drop n ((xs ++ byte ∷ []) ++ c)) (sym here) ∙ drop_front (xs ++ byte ∷ []) c)
 
 -- bytes without an LF have no cut
-never_cut : (xs : Text) → HasNoLf xs → cut_at 10 xs ≡ None
+never_cut : (xs : Text) → Lacks 10 xs → cut_at 10 xs ≡ None
 never_cut [] f = refl
-never_cut (b ∷ xs) f = ap (cut_from b xs) (ne_eqb b 10 (All-head (λ n. n ≢ 10) b xs f)) ∙ ap (behind b) (never_cut xs (All-tail (λ n. n ≢ 10) b xs f))
+never_cut (b ∷ xs) f = ap (cut_from b xs) (ne_eqb b 10 (All-head (λ n. n ≢ 10) b xs f)) ∙ ap (with_first b) (never_cut xs (All-tail (λ n. n ≢ 10) b xs f))
 
 -- nor have bytes with no cut an LF, and none stands before a cut
-clean : (xs : Text) → (cut_at 10 xs ≡ None → HasNoLf xs) × ((x y : Text) → cut_at 10 xs ≡ Some (x, y) → HasNoLf x)
+clean : (xs : Text) → (cut_at 10 xs ≡ None → Lacks 10 xs) × ((x y : Text) → cut_at 10 xs ≡ Some (x, y) → Lacks 10 x)
 clean [] = (λ e. All-nil (λ n. n ≢ 10), λ x y e. absurd (cc))
 clean (b ∷ xs) = elim (eqb_tells b 10) [
-  | inl (t, same) ↦ (λ e. absurd (none_yet t e), λ x y e. subst HasNoLf (at_once x y t e) (All-nil (λ n. n ≢ 10)))
+  | inl (t, same) ↦ (λ e. absurd (none_yet t e), λ x y e. subst (Lacks 10) (at_once x y t e) (All-nil (λ n. n ≢ 10)))
   | inr (t, other) ↦ later other (clean xs) (cut_at 10 xs) refl (ap (cut_from b xs) t)
 ]
   where
@@ -182,13 +182,13 @@ clean (b ∷ xs) = elim (eqb_tells b 10) [
     at_once : (x y : Text) → eqb b 10 ≡ true → cut_at 10 (b ∷ xs) ≡ Some (x, y) → [] ≡ x
     at_once x y t e = (both [] xs x y (sym (ap (cut_from b xs) t) ∙ e)).0
 
-    later : b ≢ 10 → (cut_at 10 xs ≡ None → HasNoLf xs) × ((x y : Text) → cut_at 10 xs ≡ Some (x, y) → HasNoLf x) → (r : Option (Text × Text)) → cut_at 10 xs ≡ r → cut_at 10 (b ∷ xs) ≡ behind b r
-        → (cut_at 10 (b ∷ xs) ≡ None → HasNoLf (b ∷ xs)) × ((x y : Text) → cut_at 10 (b ∷ xs) ≡ Some (x, y) → HasNoLf x)
+    later : b ≢ 10 → (cut_at 10 xs ≡ None → Lacks 10 xs) × ((x y : Text) → cut_at 10 xs ≡ Some (x, y) → Lacks 10 x) → (r : Option (Text × Text)) → cut_at 10 xs ≡ r → cut_at 10 (b ∷ xs) ≡ with_first b r
+        → (cut_at 10 (b ∷ xs) ≡ None → Lacks 10 (b ∷ xs)) × ((x y : Text) → cut_at 10 (b ∷ xs) ≡ Some (x, y) → Lacks 10 x)
     later other ih None was is = (λ e. All-cons (λ n. n ≢ 10) b xs other (ih.0 was), λ x y e. absurd (none_got x y (sym is ∙ e)))
       where
         none_got : (x y : Text) → ◌≡◌ {A = Option (Text × Text)} None (Some (x, y)) → ⊥
         none_got x y e = cc
-    later other ih (Some cut) was is = (λ e. absurd (some_got (sym is ∙ e)), λ x y e. subst HasNoLf (both (b ∷ cut.0) cut.1 x y (sym is ∙ e)).0 (All-cons (λ n. n ≢ 10) b cut.0 other (ih.1 cut.0 cut.1 was)))
+    later other ih (Some cut) was is = (λ e. absurd (some_got (sym is ∙ e)), λ x y e. subst (Lacks 10) (both (b ∷ cut.0) cut.1 x y (sym is ∙ e)).0 (All-cons (λ n. n ≢ 10) b cut.0 other (ih.1 cut.0 cut.1 was)))
       where
         some_got : ◌≡◌ {A = Option (Text × Text)} (Some (b ∷ cut.0, cut.1)) None → ⊥
         some_got e = cc
@@ -204,7 +204,7 @@ line_stands text = by_cut (cut_at 10 text) refl
       ends = inl (cut.0, (clean text).1 cut.0 cut.1 was, refl);
     }
 
-pub says_only : (says rest : Text) → HasNoLf says → (content_of says ≡ says) × (content_of (says ++ 10 ∷ rest) ≡ says)
+pub says_only : (says rest : Text) → Lacks 10 says → (content_of says ≡ says) × (content_of (says ++ 10 ∷ rest) ≡ says)
 says_only says rest none = (ap (content_before says) (never_cut says none), (cut_behind says (10 ∷ rest) (never_cut says none)).1 ∙ append-nil says)
 
 -- what stands first is the first line

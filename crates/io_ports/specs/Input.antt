@@ -1,7 +1,7 @@
 -- What is read of a source: all of it, or a line.
-use Rattle.std.specs.Prelude.{ℕ, ◌+◌, ◌≡◌, ◌≢◌, ◌⊎◌, All, ◌<◌, ◌≤◌, ◌++◌, ◌∷◌, [], length, drop, Option, None, Some, Result, Ok, Err, Vec}
+use Rattle.std.specs.Prelude.{ℕ, ◌+◌, ◌≡◌, ◌⊎◌, ◌<◌, ◌≤◌, ◌++◌, ◌∷◌, [], length, drop, Option, None, Some, Result, Ok, Err, Vec}
 use Rattle.gopass_base.specs.Text.{Text}
-use Rattle.gopass_base.specs.Lines.{cut_at}
+use Rattle.gopass_base.specs.Lines.{Lacks, cut_at}
 use Rattle.io_ports.specs.Source.{Came}
 use Rattle.io_ports.specs.declared.input.InputFault.{InputFault}
 use Rattle.io_ports.specs.declared.input.InputFault.TheVariants.{Failed, Long, NoMemory}
@@ -33,14 +33,10 @@ line_before text (Some cut) = (cut.0 ++ 10 ∷ [], cut.1)
 abbrev pub first_line : Text → Text × Text
 first_line text = line_before text (cut_at 10 text)
 
--- no byte is an LF
-abbrev pub HasNoLf : Text → Type 0
-HasNoLf bytes = All (λ b. b ≢ 10) bytes
-
 -- a line stands first in a text, and this behind it: it ends with its one LF, or has none where nothing is behind it
 pub record StandsFirst (line rest text : Text) : Type 0 where
   pub whole : text ≡ line ++ rest
-  pub ends : ((says : Text) × HasNoLf says × (line ≡ says ++ 10 ∷ [])) ⊎ (HasNoLf line × (rest ≡ []))
+  pub ends : ((says : Text) × Lacks 10 says × (line ≡ says ++ 10 ∷ [])) ⊎ (Lacks 10 line × (rest ≡ []))
 
 -- one line, which says at most `max` bytes
 pub record IsLine (max : ℕ) (line : Text) : Type 0 where

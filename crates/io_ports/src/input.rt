@@ -2,9 +2,10 @@
 
 ghost use Rattle.std.specs.Prelude.{◌≡◌, ◌≤◌, ◌+◌, ◌++◌, ◌∷◌, ◌↔◌, ℕ, [], vec_len, Err, IsErr, IfOk};
 ghost use Rattle.gopass_base.specs.Text.{Text};
+ghost use Rattle.gopass_base.specs.Lines.{Lacks};
 ghost use Rattle.gopass_base.specs.Faults.{HasCause};
 ghost use Rattle.io_ports.specs.Source.{Told, NextByte};
-ghost use Rattle.io_ports.specs.Input.{ReadsAll, ReadsLine, IsLine, HasNoLf, StandsFirst, first_line, content_of};
+ghost use Rattle.io_ports.specs.Input.{ReadsAll, ReadsLine, IsLine, StandsFirst, first_line, content_of};
 ghost use Rattle.io_ports.specs.declared.input.InputFault.TheVariants.{Failed as failed, NoMemory as no_memory};
 
 use crate::Source;
@@ -81,7 +82,7 @@ pub fn read_all<S: Source>(alloc: Global, input: &mut S, max: usize) -> Result<V
 /// stands before its LF, or all of it where it has none.
 pub fn first_lines()
     ensures exact { (text line rest : Text) → first_line text ≡ (line, rest) ↔ StandsFirst line rest text }
-    ensures says { (says rest : Text) → HasNoLf says → (content_of says ≡ says) × (content_of (says ++ 10 ∷ rest) ≡ says) }
+    ensures says { (says rest : Text) → Lacks 10 says → (content_of says ≡ says) × (content_of (says ++ 10 ∷ rest) ≡ says) }
 {}
 
 /// The next byte of the source, where one is left.

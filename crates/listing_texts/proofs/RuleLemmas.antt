@@ -1,29 +1,21 @@
 -- The entries of a finite map are its keys, each with what is found of it.
-use Rattle.std.proofs.Common.{◌≡◌, ℕ, zero, suc, ◌+◌, ◌<◌, ◌≤◌, Bool, true, false, ◌&&◌, T, List, [], ◌∷◌, ◌++◌, length, get_or, drop, map, cond, Some, None, refl, ap, sym, subst, ◌∙◌, arith, append_assoc, drop-cons}
-use Rattle.std.specs.Ordering.{nat_cmp, is_lt, is_eq, ordering_reverse}
+use Rattle.std.proofs.Common.{◌≡◌, ℕ, zero, suc, ◌+◌, ◌<◌, ◌≤◌, T, List, [], ◌∷◌, ◌++◌, length, get_or, drop, map, cond, Some, None, refl, ap, sym, subst, ◌∙◌, arith, append_assoc, drop-cons}
+use Rattle.std.specs.Ordering.{nat_cmp, is_lt, is_eq}
 use Rattle.std.specs.declared.cmp.Ordering.{Ordering}
-use Rattle.std.specs.declared.cmp.Ordering.TheVariants.{Less, Equal, Greater}
+use Rattle.std.specs.declared.cmp.Ordering.TheVariants.{Greater}
 use Rattle.std.specs.Cmp.Lexicographic.{slice_cmp}
 use Rattle.std.specs.FinMap as finite
 use Rattle.std.specs.FinMap.Entries.{is_sorted, below_all, find}
 use Rattle.std.proofs.lemmas.Cmp.{nat_list_cmp_total, tied_itself}
 use Rattle.std.proofs.lemmas.List.{append-nil, drop_all}
 use Rattle.gopass_base.specs.Text.{Text}
+use Rattle.gopass_base.proofs.OrderLemmas.{above, both, less}
 use Rattle.recipient_files.specs.Ids.{Ids}
 use Rattle.path_rules.specs.RuleMap.{RuleMap, rule_at}
-use Rattle.listing_texts.specs.RuleLines.{lines_of_rule, rule_lines, recipients_text}
+use Rattle.listing_texts.specs.RuleLines.{lines_of_rule, rule_lines, recipients_listing}
 
 abbrev order : Text → Text → Ordering
 order = slice_cmp nat_cmp
-
-both : (a b : Bool) → T (a && b) → T a × T b
-both true b p = (tt, p)
-both false b p = absurd p
-
-less : (o : Ordering) → T (is_lt o) → o ≡ Less
-less Less p = refl
-less Equal p = absurd p
-less Greater p = absurd p
 
 key_at : (es : List (Text × Ids)) (k : ℕ) (d : Text × Ids) (q : Text) → k < length es → get_or (map (λ (e : Text × Ids). e.0) es) k q ≡ (get_or es k d).0
 key_at [] k d q lt = absurd (omega arith)
@@ -37,7 +29,7 @@ as_many (e ∷ es) = ap suc (as_many es)
 -- a key that stands behind another is above it
 behind : (x : Text) (es : List (Text × Ids)) (k : ℕ) (d : Text × Ids) → T (below_all order x es) → k < length es → order (get_or es k d).0 x ≡ Greater
 behind x [] k d h lt = absurd (omega arith)
-behind x (e ∷ es) zero d h lt = nat_list_cmp_total.antisymm e.0 x ∙ ap ordering_reverse (less (order x e.0) (both (is_lt (order x e.0)) (below_all order x es) h).0)
+behind x (e ∷ es) zero d h lt = above x e.0 (less (order x e.0) (both (is_lt (order x e.0)) (below_all order x es) h).0)
 behind x (e ∷ es) (suc k) d h lt = behind x es k d (both (is_lt (order x e.0)) (below_all order x es) h).1 (omega arith)
 
 find_at : (es : List (Text × Ids)) (k : ℕ) (d : Text × Ids) → T (is_sorted order es) → k < length es → find order (get_or es k d).0 es ≡ Some (get_or es k d).1
@@ -81,7 +73,7 @@ has_rule rules folders k folder at none =
 
 -- the lines of one folder more
 pub one_more : (rules : RuleMap) (folders : List Text) (k : ℕ) (folder : Text) (ids : Ids) (old new : Text) → IsFolderAt rules folders k folder → rule_at rules folder ≡ Some ids
-    → old ++ rule_lines (drop k (finite.entries rules)) ≡ recipients_text rules → new ≡ old ++ lines_of_rule folder ids → new ++ rule_lines (drop (k + 1) (finite.entries rules)) ≡ recipients_text rules
+    → old ++ rule_lines (drop k (finite.entries rules)) ≡ recipients_listing rules → new ≡ old ++ lines_of_rule folder ids → new ++ rule_lines (drop (k + 1) (finite.entries rules)) ≡ recipients_listing rules
 one_more rules folders k folder ids old new at ruled so_far new_is =
     let (inside, key, found) = rule_of rules folders k folder (folder, ids) at in
     let same : Some (get_or (finite.entries rules) k (folder, ids)).1 ≡ Some ids = sym found ∙ ruled in
@@ -93,7 +85,7 @@ one_more rules folders k folder ids old new at ruled so_far new_is =
     ∙ (append_assoc old (lines_of_rule folder ids) (rule_lines (drop (k + 1) (finite.entries rules))) ∙ (ap (λ (t : Text). old ++ t) (sym cut) ∙ so_far))
 
 -- none is left
-pub all_lines : (rules : RuleMap) (folders : List Text) (k : ℕ) (text : Text) → folders ≡ finite.keys rules → length folders ≤ k → text ++ rule_lines (drop k (finite.entries rules)) ≡ recipients_text rules → text ≡ recipients_text rules
+pub all_lines : (rules : RuleMap) (folders : List Text) (k : ℕ) (text : Text) → folders ≡ finite.keys rules → length folders ≤ k → text ++ rule_lines (drop k (finite.entries rules)) ≡ recipients_listing rules → text ≡ recipients_listing rules
 all_lines rules folders k text keys le so_far =
     let none : drop k (finite.entries rules) ≡ [] = drop_all k (finite.entries rules) (omega (arith, ap length keys, as_many (finite.entries rules))) in
     sym (append-nil text) ∙ (ap (λ (es : List (Text × Ids)). text ++ rule_lines es) (sym none) ∙ so_far)

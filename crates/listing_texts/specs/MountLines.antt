@@ -10,6 +10,6 @@ abbrev pub mount_line : Row → Text
 mount_line row = shown_folder row.alias ++ 9 ∷ (row.dir ++ 9 ∷ flag_of row.git)
 
 -- each line has a line feed behind it
-abbrev pub mounts_text : List Row → Text
-mounts_text [] = []
-mounts_text (row ∷ rows) = mount_line row ++ 10 ∷ mounts_text rows
+abbrev pub mounts_listing : List Row → Text
+mounts_listing [] = []
+mounts_listing (row ∷ rows) = mount_line row ++ 10 ∷ mounts_listing rows

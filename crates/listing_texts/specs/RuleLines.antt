@@ -24,5 +24,5 @@ rule_lines [] = []
 rule_lines (rule ∷ rules) = lines_of_rule rule.0 rule.1 ++ rule_lines rules
 
 -- the folders that have a rule, in the order of their bytes
-abbrev pub recipients_text : RuleMap → Text
-recipients_text rules = rule_lines (map.entries rules)
+abbrev pub recipients_listing : RuleMap → Text
+recipients_listing rules = rule_lines (map.entries rules)

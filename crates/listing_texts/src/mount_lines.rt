@@ -1,7 +1,7 @@
 //! The mounts, on lines.
 
 ghost use Rattle.std.specs.Prelude.{◌≡◌, ◌∷◌, ◌++◌, [], IfOk, OnOk};
-ghost use Rattle.listing_texts.specs.MountLines.{mount_line, mounts_text};
+ghost use Rattle.listing_texts.specs.MountLines.{mount_line, mounts_listing};
 
 use crate::lines::shown_folder;
 use gopass_base::NoMemory;
@@ -11,7 +11,7 @@ use std::alloc::{AllocError, Global};
 /// A line for each mount, in their order: its alias, `/` for that of the root, a tab, its directory,
 /// a tab, `git` or `plain`, and a line feed.
 pub fn mounts_text(alloc: Global, mounts: &Mounts) -> Result<Vec<u8>, NoMemory>
-    ensures { IfOk result (λ text. text.items ≡ mounts_text mounts.now) }
+    ensures { IfOk result (λ text. text.items ≡ mounts_listing mounts.now) }
 {
     let mut text = Vec::new(alloc);
     for row in mounts.rows() {

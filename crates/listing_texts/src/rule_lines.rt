@@ -1,7 +1,7 @@
 //! The rules, on lines.
 
 ghost use Rattle.std.specs.Prelude.{◌≡◌, ◌++◌, IfOk, OnOk};
-ghost use Rattle.listing_texts.specs.RuleLines.{id_line, id_lines, lines_of_rule, recipients_text};
+ghost use Rattle.listing_texts.specs.RuleLines.{id_line, id_lines, lines_of_rule, recipients_listing};
 
 use crate::lines::{push_on_line, shown_folder};
 use gopass_base::NoMemory;
@@ -13,7 +13,7 @@ use std::alloc::{AllocError, Global};
 /// For each folder that has a rule, by the bytes of their texts, a line with its text, `/` for the
 /// root folder, and a line for each id of its rule, by their bytes and after two spaces.
 pub fn recipients_text(alloc: Global, rules: &Rules) -> Result<Vec<u8>, NoMemory>
-    ensures { IfOk result (λ text. text.items ≡ recipients_text rules.now) }
+    ensures { IfOk result (λ text. text.items ≡ recipients_listing rules.now) }
 {
     let mut text = Vec::new(alloc);
     let folders = rules.folders();

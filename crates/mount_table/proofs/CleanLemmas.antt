@@ -1,14 +1,13 @@
 -- Folders and directories have no control byte, so no tab and no line feed; and what a text says that is cut at such a byte.
-use Rattle.std.proofs.Common.{◌≡◌, ◌≢◌, ℕ, ◌+◌, ◌<◌, List, [], ◌∷◌, ◌++◌, length, get_or, take, drop, cond, eqb, Bool, true, false, All, refl, ap, sym, ◌∙◌, subst, arith, length-take, take-append-drop}
-use Rattle.std.proofs.lemmas.List.{at_drop_more, get_or-take}
+use Rattle.std.proofs.Common.{◌≡◌, ◌≢◌, ℕ, ◌+◌, ◌<◌, List, [], ◌∷◌, ◌++◌, length, cond, eqb, Bool, true, false, All, refl, sym, subst, arith}
 use Rattle.std.specs.List.{onto_first}
 use Rattle.std.proofs.lemmas.List.Elements.{All-nil, All-cons, All-head, All-tail}
 use Rattle.std.proofs.lemmas.Bool.Decides.{Decides-eqb}
 use Rattle.gopass_base.specs.Text.{Text, IsPrintable}
+use Rattle.gopass_base.specs.Lines.{Lacks}
 use Rattle.mount_table.specs.Names.{parts}
 use Rattle.mount_table.specs.Folders.{IsFolder}
 use Rattle.mount_table.specs.Paths.{IsDirPath}
-use Rattle.mount_table.specs.Lines.{Lacks, IsCut}
 use Rattle.mount_table.proofs.PartLemmas.{parts_fill}
 
 first_byte : (b : ℕ) (cut : Bool) (ps : List Text) → eqb b 47 ≡ cut → 0 < length ps → All (λ part. All IsPrintable part) (cond cut ([] ∷ ps) (onto_first b ps)) → IsPrintable b × All (λ part. All IsPrintable part) ps
@@ -18,7 +17,7 @@ first_byte b false (p ∷ ps) e some h =
     let head = All-head (λ part. All IsPrintable part) (b ∷ p) ps h in
     (All-head IsPrintable b p head, All-cons (λ part. All IsPrintable part) p ps (All-tail IsPrintable b p head) (All-tail (λ part. All IsPrintable part) (b ∷ p) ps h))
 
-whole_text : (text : Text) → All (λ part. All IsPrintable part) (parts text) → All IsPrintable text
+pub whole_text : (text : Text) → All (λ part. All IsPrintable part) (parts text) → All IsPrintable text
 whole_text [] h = All-nil IsPrintable
 whole_text (b ∷ text) h =
     let here = first_byte b (eqb b 47) (parts text) refl (parts_fill text).0 h in
@@ -51,10 +50,3 @@ no_cut c [] [] v h e = cc
 no_cut c [] (d ∷ u) v h e = cc
 no_cut c (b ∷ text) [] v h e = (let same : b ≡ c = cc in All-head (λ b. b ≢ c) b text h same)
 no_cut c (b ∷ text) (d ∷ u) v h e = (let tail : text ≡ u ++ c ∷ v = cc in no_cut c text u v (All-tail (λ b. b ≢ c) b text h) tail)
-
--- the first such byte is where a text is cut
-pub cut_there : (c : ℕ) (text : Text) (at : ℕ) → at < length text → get_or text at 0 ≡ c → ((k d : ℕ) → k < at → get_or text k d ≢ c) → IsCut c text (take at text) (drop (at + 1) text)
-cut_there c text at inside here before = (
-  sym (take-append-drop at text) ∙ (ap (λ t. take at text ++ t) (at_drop_more (λ (t : Text). t) text at 0 inside) ∙ ap (λ b. take at text ++ b ∷ drop (at + 1) text) here),
-  λ k d lt same. (let low : k < at = omega (arith, lt, length-take at text) in before k d low (sym (get_or-take at text k d low) ∙ same)),
-)

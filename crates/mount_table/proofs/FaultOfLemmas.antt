@@ -2,6 +2,7 @@
 use Rattle.std.proofs.Common.{◌≡◌, ℕ, zero, suc, ◌+◌, ◌<◌, ◌≤◌, ◌≢◌, Bool, true, false, not, ◌&&◌, cond, List, [], ◌∷◌, length, All, IsTrue, refl, ap, sym, ◌∙◌, subst, arith, ◌-◌, ◌⊎◌, inl, inr, take, length-take}
 use Rattle.std.specs.Prelude.{Option, Some, None, MatchOption, Decides, if◌then◌else◌, ◌==◌, nat_le, nat_lt, nat_eq, slice_index, codes, bytes_eq}
 use Rattle.std.specs.List.{list_all, ends_with}
+use Rattle.std.proofs.lemmas.Bool.{and_parts, not-false}
 use Rattle.std.proofs.lemmas.Bool.Decides.{nat_tests, Decides-by_and, Decides-not, Decides-eqb, not_from_Decides}
 use Rattle.std.proofs.lemmas.Slice.Eq.{bytes_eq-Decides}
 use Rattle.gopass_base.specs.Text.{Text, IsPrintable}
@@ -62,10 +63,6 @@ long n e = grind (arith, nat_tests)
 short : (n : ℕ) → nat_lt 100 n ≡ false → n ≤ 100
 short n e = grind (arith, nat_tests)
 
-both : (a b : Bool) → a && b ≡ true → (a ≡ true) × (b ≡ true)
-both true b e = (refl, e)
-both false b e = absurd (cc)
-
 not_both : (a b : Bool) → a && b ≡ false → IsTrue a → IsTrue b → ⊥
 not_both true b e is_a is_b = absurd (cc)
 not_both false b e is_a is_b = absurd (cc)
@@ -78,21 +75,17 @@ kind_tells number folder part =
     (λ no_dot. if_tells (IsGood number folder part) (Fails number folder part) (not (list_all is_printable part)) Control (behind_control folder part)
     (λ control. (few number is_few, some_bytes (length part) is_some, not_from_Decides (slice_index part 0 == 46) (Decides-eqb (slice_index part 0) 46) no_dot, (Decides-not (list_all is_printable part) (printable part)).0 control))
     (λ plain. if_tells (IsGood number folder part) (Fails number folder part) (nat_lt 100 (length part)) LongPart (behind_long folder part)
-    (λ is_long. (few number is_few, not_from_Decides (slice_index part 0 == 46) (Decides-eqb (slice_index part 0) 46) no_dot, (printable part).0 (untold (list_all is_printable part) plain), long (length part) is_long))
+    (λ is_long. (few number is_few, not_from_Decides (slice_index part 0 == 46) (Decides-eqb (slice_index part 0) 46) no_dot, (printable part).0 (not-false (list_all is_printable part) plain), long (length part) is_long))
     (λ is_short.
     let named : IsNamePart part = record {
       some = some_bytes (length part) is_some;
       short = short (length part) is_short;
       plain = not_from_Decides (slice_index part 0 == 46) (Decides-eqb (slice_index part 0) 46) no_dot;
-      printable = (printable part).0 (untold (list_all is_printable part) plain);
+      printable = (printable part).0 (not-false (list_all is_printable part) plain);
     } in
     if_tells (IsGood number folder part) (Fails number folder part) (folder && ends_with nat_eq part (codes ".gpg")) FolderGpg None
-    (λ sealed. (let tests = both folder (ends_with nat_eq part (codes ".gpg")) sealed in (few number is_few, named, tests.0, tests.1)))
+    (λ sealed. (let tests = and_parts folder (ends_with nat_eq part (codes ".gpg")) sealed in (few number is_few, named, tests.0, tests.1)))
     (λ above. record { few = few number is_few; named = named; above = not_both folder (ends_with nat_eq part (codes ".gpg")) above }))))))
-  where
-    untold : (b : Bool) → not b ≡ false → b ≡ true
-    untold true e = refl
-    untold false e = absurd (cc)
 
 told_not : {P : Type 0} (r : Bool) → Decides r P → ¬ P → r ≡ false
 told_not true told other = absurd (other (told.0 refl))

@@ -106,7 +106,7 @@ file_good dir name dir_good good =
     (omega (arith, ap length cut, length-with_ending (parts name) some))
     (subst (All IsPathPart) (sym cut) (sealed_parts (parts name) some good.each))
 
-literal_part : (text : Text) → 3 ≤ length text → length text ≤ 255 → list_all plain_byte text ≡ true → IsPathPart text
+pub literal_part : (text : Text) → 3 ≤ length text → length text ≤ 255 → list_all plain_byte text ≡ true → IsPathPart text
 literal_part text long short clean = record {
   some = omega arith;
   short = short;
@@ -120,7 +120,7 @@ service_part Journal = literal_part (codes ".gopass-journal") (omega arith) (ome
 service_part Mounts = literal_part (codes ".gopass-mounts") (omega arith) (omega arith) refl
 service_part Pending = literal_part (codes ".gopass-pending") (omega arith) (omega arith) refl
 
-one_part : (dir rest : Text) → IsDirPath dir → length rest ≤ 255 → parts rest ≡ rest ∷ [] → IsPathPart rest → IsFilePath (path_in dir rest)
+pub one_part : (dir rest : Text) → IsDirPath dir → length rest ≤ 255 → parts rest ≡ rest ∷ [] → IsPathPart rest → IsFilePath (path_in dir rest)
 one_part dir rest good short one part =
     path_in_good dir rest good (omega arith) (omega (arith, ap length one)) (subst (All IsPathPart) (sym one) (All-cons IsPathPart rest [] part (All-nil IsPathPart)))
 

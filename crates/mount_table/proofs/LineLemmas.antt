@@ -3,9 +3,9 @@ use Rattle.std.proofs.Common.{◌≡◌, ◌≢◌, ◌⊎◌, inl, inr, ℕ, �
 use Rattle.std.proofs.lemmas.List.{append-nil, get_or_at, get_or_append_left}
 use Rattle.std.proofs.lemmas.List.Elements.{All-cons, All-head, All-tail, All-append, All-from_get_or}
 use Rattle.gopass_base.specs.Text.{Text}
-use Rattle.mount_table.specs.Lines.{Lacks, IsCut}
+use Rattle.gopass_base.specs.Lines.{Lacks, IsCut}
 use Rattle.mount_table.specs.Mounts.{IsRow, IsBefore, no_row, row_at, AreRows, IsTable}
-use Rattle.mount_table.specs.MountsText.{flag_of, line_of, text_of, CanFollow, IsFirstBad}
+use Rattle.mount_table.specs.MountsText.{flag_of, line_of, table_text, CanFollow, IsFirstBad}
 use Rattle.mount_table.specs.declared.mounts.Row.{Row}
 use Rattle.mount_table.proofs.JoinLemmas.{printable_text}
 use Rattle.mount_table.proofs.CleanLemmas.{clean_folder, clean_dir, lacks_control, same_cut, no_cut}
@@ -54,18 +54,18 @@ first_lines a b t u good good' e =
 
 -- of two lists of rows that one text begins with, the longer begins with the shorter
 abbrev pub Agrees : (xs ys : List Row) (r s : Text) → Type 0
-Agrees xs ys r s = ((zs : List Row) × (ys ≡ xs ++ zs) × (r ≡ text_of zs ++ s)) ⊎ ((zs : List Row) × (xs ≡ ys ++ zs) × (s ≡ text_of zs ++ r))
+Agrees xs ys r s = ((zs : List Row) × (ys ≡ xs ++ zs) × (r ≡ table_text zs ++ s)) ⊎ ((zs : List Row) × (xs ≡ ys ++ zs) × (s ≡ table_text zs ++ r))
 
 agrees_more : (x : Row) (xs ys : List Row) (r s : Text) → Agrees xs ys r s → Agrees (x ∷ xs) (x ∷ ys) r s
 agrees_more x xs ys r s (inl (zs, e, f)) = inl (zs, ap (λ (t : List Row). x ∷ t) e, f)
 agrees_more x xs ys r s (inr (zs, e, f)) = inr (zs, ap (λ (t : List Row). x ∷ t) e, f)
 
-pub agree : (xs ys : List Row) (r s : Text) → All IsRow xs → All IsRow ys → text_of xs ++ r ≡ text_of ys ++ s → Agrees xs ys r s
+pub agree : (xs ys : List Row) (r s : Text) → All IsRow xs → All IsRow ys → table_text xs ++ r ≡ table_text ys ++ s → Agrees xs ys r s
 agree [] ys r s h k e = inl (ys, refl, e)
 agree (x ∷ xs) [] r s h k e = inr (x ∷ xs, refl, sym e)
 agree (x ∷ xs) (y ∷ ys) r s h k e =
-    let first = first_lines x y (text_of xs ++ r) (text_of ys ++ s) (All-head IsRow x xs h) (All-head IsRow y ys k)
-    (sym (append_assoc (line_of x) (10 ∷ text_of xs) r) ∙ (e ∙ append_assoc (line_of y) (10 ∷ text_of ys) s)) in
+    let first = first_lines x y (table_text xs ++ r) (table_text ys ++ s) (All-head IsRow x xs h) (All-head IsRow y ys k)
+    (sym (append_assoc (line_of x) (10 ∷ table_text xs) r) ∙ (e ∙ append_assoc (line_of y) (10 ∷ table_text ys) s)) in
     subst (λ (z : Row). Agrees (x ∷ xs) (z ∷ ys) r s) first.0
     (agrees_more x xs ys r s (agree xs ys r s (All-tail IsRow x xs h) (All-tail IsRow y ys k) first.1))
 
@@ -141,20 +141,20 @@ no_rows root = record {
   before = λ i k lt inside. absurd (omega (arith, inside));
 }
 
-pub text_more : (rows : List Row) (row : Row) (rest : Text) → text_of (rows ++ row ∷ []) ++ rest ≡ text_of rows ++ (line_of row ++ 10 ∷ rest)
+pub text_more : (rows : List Row) (row : Row) (rest : Text) → table_text (rows ++ row ∷ []) ++ rest ≡ table_text rows ++ (line_of row ++ 10 ∷ rest)
 text_more [] row rest = append_assoc (line_of row) (10 ∷ []) rest
 text_more (first ∷ rows) row rest =
-    append_assoc (line_of first) (10 ∷ text_of (rows ++ row ∷ [])) rest
-    ∙ (ap (λ (t : Text). line_of first ++ 10 ∷ t) (text_more rows row rest) ∙ sym (append_assoc (line_of first) (10 ∷ text_of rows) (line_of row ++ 10 ∷ rest)))
+    append_assoc (line_of first) (10 ∷ table_text (rows ++ row ∷ [])) rest
+    ∙ (ap (λ (t : Text). line_of first ++ 10 ∷ t) (text_more rows row rest) ∙ sym (append_assoc (line_of first) (10 ∷ table_text rows) (line_of row ++ 10 ∷ rest)))
 
 -- ---- no two readings
 
 next_row : (root : Text) (xs : List Row) (z : Row) (zs ys : List Row) → AreRows root ys → ys ≡ xs ++ z ∷ zs → AreRows root (xs ++ z ∷ [])
 next_row root xs z zs ys are e = fewer_rows root (xs ++ z ∷ []) zs (subst (AreRows root) (e ∙ sym (append_assoc xs (z ∷ []) zs)) are)
 
-bad_meets : (root bytes : Text) (n : ℕ) (bad : IsFirstBad root bytes n) (ys zs : List Row) (s : Text) → AreRows root ys → ys ≡ bad.rows ++ zs → bad.rest ≡ text_of zs ++ s → zs ≡ []
+bad_meets : (root bytes : Text) (n : ℕ) (bad : IsFirstBad root bytes n) (ys zs : List Row) (s : Text) → AreRows root ys → ys ≡ bad.rows ++ zs → bad.rest ≡ table_text zs ++ s → zs ≡ []
 bad_meets root bytes n bad ys [] s are e f = refl
-bad_meets root bytes n bad ys (z ∷ zs) s are e f = absurd (bad.none z (text_of zs ++ s) (next_row root bad.rows z zs ys are e) (f ∙ append_assoc (line_of z) (10 ∷ text_of zs) s))
+bad_meets root bytes n bad ys (z ∷ zs) s are e f = absurd (bad.none z (table_text zs ++ s) (next_row root bad.rows z zs ys are e) (f ∙ append_assoc (line_of z) (10 ∷ table_text zs) s))
 
 pub one_bad_line : (root bytes : Text) (m n : ℕ) → IsFirstBad root bytes m → IsFirstBad root bytes n → m ≡ n
 one_bad_line root bytes m n bad bad' = elim (agree bad.rows bad'.rows bad.rest bad'.rest (all_rows root bad.rows bad.good) (all_rows root bad'.rows bad'.good) (sym bad.text ∙ bad'.text)) [
@@ -164,20 +164,20 @@ one_bad_line root bytes m n bad bad' = elim (agree bad.rows bad'.rows bad.rest b
       let same = e ∙ (ap (λ (t : List Row). bad'.rows ++ t) none ∙ append-nil bad'.rows) in bad.number ∙ (ap (λ (t : List Row). length t + 1) same ∙ sym bad'.number))
 ]
 
-nothing_left : (zs : List Row) (s : Text) → [] ≡ text_of zs ++ s → (zs ≡ []) × (length s ≡ 0)
+nothing_left : (zs : List Row) (s : Text) → [] ≡ table_text zs ++ s → (zs ≡ []) × (length s ≡ 0)
 nothing_left [] s e = (refl, ap length (sym e))
-nothing_left (z ∷ zs) s e = absurd (omega (arith, ap length e, length-append (text_of (z ∷ zs)) s, length-append (line_of z) (10 ∷ text_of zs)))
+nothing_left (z ∷ zs) s e = absurd (omega (arith, ap length e, length-append (table_text (z ∷ zs)) s, length-append (line_of z) (10 ∷ table_text zs)))
 
-pub no_bad_line : (root : Text) (rows : List Row) (n : ℕ) → IsTable root rows → ¬ IsFirstBad root (text_of rows) n
-no_bad_line root rows n table bad = elim (agree rows bad.rows [] bad.rest (all_rows root rows table.rows_are) (all_rows root bad.rows bad.good) (append-nil (text_of rows) ∙ bad.text)) [
+pub no_bad_line : (root : Text) (rows : List Row) (n : ℕ) → IsTable root rows → ¬ IsFirstBad root (table_text rows) n
+no_bad_line root rows n table bad = elim (agree rows bad.rows [] bad.rest (all_rows root rows table.rows_are) (all_rows root bad.rows bad.good) (append-nil (table_text rows) ∙ bad.text)) [
   | inl (zs, e, f) ↦ (let left = nothing_left zs bad.rest f in let some = table.some in
       absurd (omega (arith, bad.unfinished left.1, ap length e, length-append rows zs)))
-  | inr (zs, e, f) ↦ (let none = bad_meets root (text_of rows) n bad rows zs [] table.rows_are e f in let some = table.some in
-      let empty : length bad.rest ≡ 0 = ap length (f ∙ ap (λ (t : List Row). text_of t ++ []) none) in
+  | inr (zs, e, f) ↦ (let none = bad_meets root (table_text rows) n bad rows zs [] table.rows_are e f in let some = table.some in
+      let empty : length bad.rest ≡ 0 = ap length (f ∙ ap (λ (t : List Row). table_text t ++ []) none) in
       absurd (omega (arith, bad.unfinished empty, ap length (e ∙ (ap (λ (t : List Row). bad.rows ++ t) none ∙ append-nil bad.rows)))))
 ]
 
-pub one_text : (root other : Text) (rows others : List Row) → IsTable root rows → IsTable other others → text_of rows ≡ text_of others → rows ≡ others
+pub one_text : (root other : Text) (rows others : List Row) → IsTable root rows → IsTable other others → table_text rows ≡ table_text others → rows ≡ others
 one_text root other rows others table table' same = elim (agree rows others [] [] (all_rows root rows table.rows_are) (all_rows other others table'.rows_are) (ap (λ (t : Text). t ++ []) same)) [
   | inl (zs, e, f) ↦ sym (e ∙ (ap (λ (t : List Row). rows ++ t) (nothing_left zs [] f).0 ∙ append-nil rows))
   | inr (zs, e, f) ↦ e ∙ (ap (λ (t : List Row). others ++ t) (nothing_left zs [] f).0 ∙ append-nil others)
@@ -192,7 +192,7 @@ no_second line alias rest row cut lacks lacks' good is =
 
 -- what is read so far, and what is left
 pub record SoFar (root bytes : Text) (rows : List Row) (rest : Text) : Type 0 where
-  pub text : bytes ≡ text_of rows ++ rest
+  pub text : bytes ≡ table_text rows ++ rest
   pub good : AreRows root rows
 
 pub starts : (root bytes : Text) (rows : List Row) → rows ≡ [] → SoFar root bytes rows bytes
@@ -202,7 +202,7 @@ pub goes_on : (root bytes rest line after : Text) (rows lent now : List Row) (ro
 goes_on root bytes rest line after rows lent now row so_far cut read same is =
     let can : CanFollow root rows row = subst (λ (r : List Row). CanFollow root r row) same read.1 in
     subst (λ (r : List Row). SoFar root bytes r after) (sym is) (record {
-      text = so_far.text ∙ (ap (λ (t : Text). text_of rows ++ t) (cut.0 ∙ ap (λ (t : Text). t ++ 10 ∷ after) read.2) ∙ sym (text_more rows row after));
+      text = so_far.text ∙ (ap (λ (t : Text). table_text rows ++ t) (cut.0 ∙ ap (λ (t : Text). t ++ 10 ∷ after) read.2) ∙ sym (text_more rows row after));
       good = more_rows root rows row so_far.good read.0 can;
     })
 
@@ -234,8 +234,8 @@ nothing : (rest : Text) → length rest ≡ 0 → rest ≡ []
 nothing [] e = refl
 nothing (b ∷ rest) e = absurd (omega arith)
 
-pub ends_well : (root bytes rest : Text) (rows : List Row) → SoFar root bytes rows rest → length rest ≡ 0 → length rows ≢ 0 → IsTable root rows × (bytes ≡ text_of rows)
+pub ends_well : (root bytes rest : Text) (rows : List Row) → SoFar root bytes rows rest → length rest ≡ 0 → length rows ≢ 0 → IsTable root rows × (bytes ≡ table_text rows)
 ends_well root bytes rest rows so_far none some = (
   record { some = omega arith; rows_are = so_far.good },
-  so_far.text ∙ (ap (λ (t : Text). text_of rows ++ t) (nothing rest none) ∙ append-nil (text_of rows)),
+  so_far.text ∙ (ap (λ (t : Text). table_text rows ++ t) (nothing rest none) ∙ append-nil (table_text rows)),
 )

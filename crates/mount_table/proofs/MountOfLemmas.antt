@@ -1,8 +1,8 @@
 -- The mount of a name that is computed row by row is the row with the most parts among those that hold it.
-use Rattle.std.proofs.Common.{◌≡◌, ℕ, ◌+◌, ◌<◌, List, [], ◌∷◌, ◌++◌, length, get_or, Bool, true, false, ◌&&◌, bytes_eq, if◌then◌else◌, refl, ap, sym, ◌∙◌, subst, arith, length-append}
+use Rattle.std.proofs.Common.{◌≡◌, ℕ, ◌+◌, ◌<◌, List, [], ◌∷◌, ◌++◌, length, get_or, true, false, ◌&&◌, bytes_eq, if◌then◌else◌, refl, ap, sym, ◌∙◌, subst, arith, length-append}
 use Rattle.std.proofs.lemmas.List.{get_or_at, append_assoc, append-nil}
 use Rattle.std.proofs.lemmas.Slice.Eq.{bytes_eq-Decides}
-use Rattle.std.proofs.lemmas.Bool.{true≢false}
+use Rattle.std.proofs.lemmas.Bool.{and_parts, true≢false}
 use Rattle.gopass_base.specs.Text.{Text}
 use Rattle.mount_table.specs.Names.{parts}
 use Rattle.mount_table.specs.Prefixes.{folder_parts, IsProperPrefix, Holds}
@@ -12,15 +12,11 @@ use Rattle.mount_table.specs.declared.mounts.Row.{Row}
 use Rattle.mount_table.proofs.TableLemmas.{root_holds}
 use Rattle.mount_table.proofs.MountLemmas.{IsLast, last_here, last_stays, mount_of as mount_by_last}
 
-both : (a b : Bool) → a && b ≡ true → (a ≡ true) × (b ≡ true)
-both true b e = (refl, e)
-both false b e = absurd (cc)
-
 pub begins-says : (ps qs : List Text) → begins ps qs ≡ true → IsProperPrefix ps qs
 begins-says ps [] e = absurd (cc)
 begins-says [] (q ∷ qs) e = (q, qs, refl)
 begins-says (p ∷ ps) (q ∷ qs) e =
-    let tests = both (bytes_eq p q) (begins ps qs) e in
+    let tests = and_parts (bytes_eq p q) (begins ps qs) e in
     let (next, rest, more) = begins-says ps qs tests.1 in
     let same : p ≡ q = (bytes_eq-Decides p q).0 tests.0 in
     (next, rest, λ i. sym same i ∷ more i)

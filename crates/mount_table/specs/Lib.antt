@@ -7,5 +7,4 @@ pub mod Paths
 pub mod Mounts
 pub mod MountOf
 pub mod MountChanges
-pub mod Lines
 pub mod MountsText

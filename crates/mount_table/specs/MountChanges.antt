@@ -9,14 +9,14 @@ use Rattle.mount_table.specs.declared.mounts.AddFault.TheVariants.{AliasUsed, Di
 use Rattle.mount_table.specs.declared.mounts.NotMounted.{NotMounted}
 
 -- the first of these that applies: the alias is used, the directory nests, there are 64 rows; else the row comes
-abbrev pub Adds : List Row → List Row → Row → Result (Unit {0}) AddFault → Type 0
-Adds rows now row (Ok done) = LacksAlias rows row.alias × IsApart rows row.dir × (length rows < 64) × IsAdded rows row now
-Adds rows now row (Err AliasUsed) = ((k : ℕ) × HasAliasAt rows row.alias k) × (now ≡ rows)
-Adds rows now row (Err (DirNests k)) = LacksAlias rows row.alias × IsFirstNest rows row.dir k × (now ≡ rows)
-Adds rows now row (Err Full) = LacksAlias rows row.alias × IsApart rows row.dir × (64 ≤ length rows) × (now ≡ rows)
-Adds rows now row (Err NoMemory) = now ≡ rows
+abbrev pub AddsMount : List Row → List Row → Row → Result (Unit {0}) AddFault → Type 0
+AddsMount rows now row (Ok done) = LacksAlias rows row.alias × IsApart rows row.dir × (length rows < 64) × IsAdded rows row now
+AddsMount rows now row (Err AliasUsed) = ((k : ℕ) × HasAliasAt rows row.alias k) × (now ≡ rows)
+AddsMount rows now row (Err (DirNests k)) = LacksAlias rows row.alias × IsFirstNest rows row.dir k × (now ≡ rows)
+AddsMount rows now row (Err Full) = LacksAlias rows row.alias × IsApart rows row.dir × (64 ≤ length rows) × (now ≡ rows)
+AddsMount rows now row (Err NoMemory) = now ≡ rows
 
 -- the row of the alias goes, and no other; the root's row stays
-abbrev pub Removes : List Row → List Row → Text → Result Row NotMounted → Type 0
-Removes rows now alias (Ok row) = (k : ℕ) × HasAliasAt rows alias k × (0 < length alias) × (row ≡ row_at rows k) × (now ≡ remove rows k)
-Removes rows now alias (Err absent) = ((alias ≡ []) ⊎ LacksAlias rows alias) × (now ≡ rows)
+abbrev pub RemovesMount : List Row → List Row → Text → Result Row NotMounted → Type 0
+RemovesMount rows now alias (Ok row) = (k : ℕ) × HasAliasAt rows alias k × (0 < length alias) × (row ≡ row_at rows k) × (now ≡ remove rows k)
+RemovesMount rows now alias (Err absent) = ((alias ≡ []) ⊎ LacksAlias rows alias) × (now ≡ rows)

@@ -13,9 +13,9 @@ abbrev pub line_of : Row → Text
 line_of row = row.alias ++ 9 ∷ (row.dir ++ 9 ∷ flag_of row.git)
 
 -- each line has a line feed behind it
-abbrev pub text_of : List Row → Text
-text_of [] = []
-text_of (row ∷ rows) = line_of row ++ 10 ∷ text_of rows
+abbrev pub table_text : List Row → Text
+table_text [] = []
+table_text (row ∷ rows) = line_of row ++ 10 ∷ table_text rows
 
 -- the row may stand behind these: there is room, the first is that of the root, and all others stand before it
 pub record CanFollow (root : Text) (rows : List Row) (row : Row) : Type 0 where
@@ -28,7 +28,7 @@ pub record CanFollow (root : Text) (rows : List Row) (row : Row) : Type 0 where
 pub record IsFirstBad (root bytes : Text) (n : ℕ) : Type 0 where
   pub rows : List Row
   pub rest : Text
-  pub text : bytes ≡ text_of rows ++ rest
+  pub text : bytes ≡ table_text rows ++ rest
   pub good : AreRows root rows
   pub number : n ≡ length rows + 1
   pub none : (row : Row) (more : Text) → AreRows root (rows ++ row ∷ []) → rest ≢ line_of row ++ 10 ∷ more

@@ -67,7 +67,9 @@ impl Folder {
         }
     }
 
-    /// The folder that has this text.
+    /// The folder that has this text, where the empty text is the root folder. Any other text is
+    /// refused where it is no name, or where its last part ends in `.gpg`, and so is one with a `/`
+    /// at either end.
     pub fn of_text(alloc: Global, text: &str) -> Result<Folder, NameFault>
         ensures folder { IfOk result (λ folder. folder ≡ text.now) }
         ensures good { IsOk result → IsFolder text.now }

@@ -1,7 +1,6 @@
 //! Names and folders of secrets, paths of the disk, and the mounts of a store.
 #![tactic(auto)]
 
-mod cut;
 mod faults;
 mod folder;
 mod mounts;
@@ -13,7 +12,7 @@ mod service;
 
 pub use faults::{faults_of_folders, faults_of_names};
 pub use folder::Folder;
-pub use mounts::{AddFault, Mounts, NotMounted, Place, Row};
+pub use mounts::{AddFault, Mounts, NotMounted, Place, Row, one_mount, one_text};
 pub use mounts_text::MountsFault;
 pub use name::{BadName, Name, NameFault, NameKind};
 pub use part::parts_of_texts;

@@ -6,8 +6,8 @@ ghost use Rattle.gopass_base.specs.Text.{Text};
 ghost use Rattle.mount_table.specs.Prefixes.{Holds, IsPrefix, Nest, folder_parts, rest_start};
 ghost use Rattle.mount_table.specs.Mounts.{IsRow, IsTable, IsBelow, IsMountOf, IsMountOfFolder, IsFileOf, HasAliasAt, LacksAlias, IsFirstNest, IsApart, new_row, root_of, row_at};
 ghost use Rattle.mount_table.specs.MountOf.{mount_of};
-ghost use Rattle.mount_table.specs.MountsText.{text_of, IsFirstBad};
-ghost use Rattle.mount_table.specs.MountChanges.{Adds, Removes};
+ghost use Rattle.mount_table.specs.MountsText.{table_text, IsFirstBad};
+ghost use Rattle.mount_table.specs.MountChanges.{AddsMount, RemovesMount};
 ghost use Rattle.mount_table.specs.declared.mounts.Row.{Row};
 ghost use Rattle.mount_table.specs.declared.mounts.AddFault.TheVariants.{NoMemory};
 
@@ -103,7 +103,7 @@ impl Mounts {
     /// alias, a tab, the directory, a tab, and `git` or `plain`, and a line feed behind it; the rows
     /// stand as in `rows`. Any other text is refused at its first bad line, counted from 1.
     pub fn read(alloc: Global, bytes: &[u8], root: &DirPath) -> Result<Mounts, MountsFault>
-        ensures rows { IfOk result (λ rows. IsTable root.now rows × (bytes.now ≡ text_of rows)) }
+        ensures rows { IfOk result (λ rows. IsTable root.now rows × (bytes.now ≡ table_text rows)) }
         ensures bad { (n : ℕ) → result ≡ Err (MountsFault.BadLine n) → IsFirstBad root.now bytes.now n }
     {
         let rows = rows_of(alloc, bytes, root)?;
@@ -112,7 +112,7 @@ impl Mounts {
 
     /// The one text of the mounts.
     pub fn write(&self) -> Result<Vec<u8>, NoMemory>
-        ensures { IfOk result (λ bytes. bytes.items ≡ text_of self.now) }
+        ensures { IfOk result (λ bytes. bytes.items ≡ table_text self.now) }
     {
         text_of_rows(*self.rows.allocator(), &self.rows)
     }
@@ -169,7 +169,7 @@ impl Mounts {
     /// changes: a row has the alias; a row's directory is the new one, lies in it or holds it, where
     /// the first such row is named; there are 64 rows; there is no memory.
     pub fn add(&mut self, alias: &Folder, dir: &DirPath) -> Result<(), AddFault>
-        ensures { Adds self.old self.new (new_row alias.now dir.now) result }
+        ensures { AddsMount self.old self.new (new_row alias.now dir.now) result }
     {
         if row_of(&self.rows, alias).is_some() {
             return Err(AddFault::AliasUsed);
@@ -193,7 +193,7 @@ impl Mounts {
 
     /// Removes the mount with this alias and gives its row. The root's is not removed.
     pub fn remove(&mut self, alias: &Folder) -> Result<Row, NotMounted>
-        ensures { Removes self.old self.new alias.now result }
+        ensures { RemovesMount self.old self.new alias.now result }
     {
         if alias.text().is_empty() {
             return Err(NotMounted);
@@ -216,8 +216,8 @@ impl Mounts {
 /// What is written reads as the mounts that it was written of, and as no others: it has no bad line,
 /// and no two mounts have one text. A text has one first bad line at most.
 pub fn one_text()
-    ensures same { (root other : Text) (rows others : List Row) → IsTable root rows → IsTable other others → text_of rows ≡ text_of others → rows ≡ others }
-    ensures good { (root : Text) (rows : List Row) (n : ℕ) → IsTable root rows → ¬ IsFirstBad root (text_of rows) n }
+    ensures same { (root other : Text) (rows others : List Row) → IsTable root rows → IsTable other others → table_text rows ≡ table_text others → rows ≡ others }
+    ensures good { (root : Text) (rows : List Row) (n : ℕ) → IsTable root rows → ¬ IsFirstBad root (table_text rows) n }
     ensures one_bad_line { (root bytes : Text) (m n : ℕ) → IsFirstBad root bytes m → IsFirstBad root bytes n → m ≡ n }
 {}
 

@@ -2,21 +2,20 @@
 
 ghost use Rattle.std.specs.Prelude.{◌≡◌, ◌≢◌, ◌↔◌, ◌<◌, ◌+◌, ℕ, Bool, [], ◌∷◌, ◌++◌, List, IsTrue, IfOk, OnOk, Err, MatchOption, length};
 ghost use Rattle.std.specs.Str.{is_utf8};
+ghost use Rattle.gopass_base.specs.Lines.{Lacks};
 ghost use Rattle.gopass_base.specs.Text.{Text};
 ghost use Rattle.mount_table.specs.Folders.{IsFolder};
 ghost use Rattle.mount_table.specs.Paths.{IsDirPath};
-ghost use Rattle.mount_table.specs.Lines.{Lacks};
 ghost use Rattle.mount_table.specs.Mounts.{IsRow, IsBefore, AreRows, IsTable, row_at};
-ghost use Rattle.mount_table.specs.MountsText.{flag_of, line_of, text_of, CanFollow, IsFirstBad};
+ghost use Rattle.mount_table.specs.MountsText.{flag_of, line_of, table_text, CanFollow, IsFirstBad};
 ghost use Rattle.mount_table.specs.declared.mounts.Row.{Row};
 ghost use Rattle.mount_table.specs.declared.mounts_text.MountsFault.TheVariants.{NoMemory};
 
-use crate::cut::cut;
 use crate::folder::Folder;
 use crate::mounts::Row;
 use crate::name::NameFault;
 use crate::path::{DirPath, PathFault};
-use gopass_base::NoMemory;
+use gopass_base::{NoMemory, as_text, cut};
 use std::alloc::{AllocError, AllocFailed, Global};
 
 /// Why bytes are not taken as the text of mounts.
@@ -37,7 +36,7 @@ impl<T: Drop> From<AllocFailed<T>> for MountsFault {
 
 /// The rows whose text the bytes are, or the first bad line.
 pub(crate) fn rows_of(alloc: Global, bytes: &[u8], root: &DirPath) -> Result<Vec<Row>, MountsFault>
-    ensures rows { IfOk result (λ rows. IsTable root.now rows.items × (bytes.now ≡ text_of rows.items)) }
+    ensures rows { IfOk result (λ rows. IsTable root.now rows.items × (bytes.now ≡ table_text rows.items)) }
     ensures bad { (n : ℕ) → result ≡ Err (MountsFault.BadLine n) → IsFirstBad root.now bytes.now n }
 {
     let mut rows = Vec::new(alloc);
@@ -124,15 +123,6 @@ fn dir_of(alloc: Global, bytes: &[u8]) -> Result<DirPath, PathFault>
     DirPath::read(alloc, text)
 }
 
-fn as_text(bytes: &[u8]) -> Option<&str>
-    ensures { MatchOption result (¬ IsTrue (is_utf8 bytes.now)) (λ text. (text.now ≡ bytes.now) × IsTrue (is_utf8 bytes.now)) }
-{
-    match str::from_utf8(bytes) {
-        Ok(text) => Some(text),
-        Err(_) => None,
-    }
-}
-
 fn flag_of(text: &[u8]) -> Option<bool>
     ensures { MatchOption result ((git : Bool) → text.now ≢ flag_of git) (λ git. text.now ≡ flag_of git) }
 {
@@ -167,7 +157,7 @@ fn is_before(earlier: &Row, row: &Row) -> bool
 
 /// The text of these rows.
 pub(crate) fn text_of_rows(alloc: Global, rows: &[Row]) -> Result<Vec<u8>, NoMemory>
-    ensures { IfOk result (λ bytes. bytes.items ≡ text_of rows.now) }
+    ensures { IfOk result (λ bytes. bytes.items ≡ table_text rows.now) }
 {
     let mut out = Vec::new(alloc);
     for row in rows {

@@ -29,7 +29,7 @@ pub enum NameKind {
     LongName,
     /// There are more than 16 parts.
     ManyParts,
-    /// A part that is not the last ends in `.gpg`.
+    /// A part that is not the last ends in `.gpg`. Of a folder the last part too may not.
     FolderGpg,
 }
 

@@ -239,7 +239,7 @@ impl DirPath {
     {
         let mut rest = String::from_str(alloc, name.text())?;
         rest.push_str(".gpg")?;
-        self.join_good(alloc, &rest)
+        self.file_at(alloc, &rest)
     }
 
     /// The path of a file that the store keeps for itself in the directory: the directory's text,
@@ -247,11 +247,12 @@ impl DirPath {
     pub fn service_file(&self, alloc: Global, file: ServiceFile) -> Result<FilePath, NoMemory>
         ensures { IfOk result (λ path. path ≡ path_in self.now (service_text file)) }
     {
-        self.join_good(alloc, file.text())
+        self.file_at(alloc, file.text())
     }
 
-    /// The path of what lies in the directory, where it is known to be the path of a file.
-    fn join_good(&self, alloc: Global, rest: &str) -> Result<FilePath, NoMemory>
+    /// The path of what lies in the directory, where it is known to be the path of a file. So only
+    /// memory can be wanting.
+    pub fn file_at(&self, alloc: Global, rest: &str) -> Result<FilePath, NoMemory>
         requires { IsDirPath self.now → IsFilePath (path_in self.now rest.now) }
         ensures { IfOk result (λ path. path ≡ path_in self.now rest.now) }
     {

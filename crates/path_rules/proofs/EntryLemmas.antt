@@ -1,13 +1,14 @@
 -- Two lists as the entries of a map: what is found, put in and taken out.
-use Rattle.std.proofs.Common.{◌≡◌, ℕ, zero, suc, ◌<◌, ◌≤◌, List, [], ◌∷◌, length, get_or, set, cond, Bool, true, false, ◌&&◌, not, map, T, Some, None, refl, ap, sym, ◌∙◌, subst, arith}
+use Rattle.std.proofs.Common.{◌≡◌, ℕ, zero, suc, ◌<◌, ◌≤◌, List, [], ◌∷◌, length, get_or, set, cond, Bool, false, not, map, T, Some, None, refl, ap, sym, ◌∙◌, subst, arith}
 use Rattle.std.specs.List.{zip, insert, remove}
-use Rattle.std.specs.Ordering.{nat_cmp, is_lt, is_eq, eq_by_cmp, ordering_reverse}
+use Rattle.std.specs.Ordering.{nat_cmp, is_lt, is_eq, eq_by_cmp}
 use Rattle.std.specs.declared.cmp.Ordering.{Ordering}
-use Rattle.std.specs.declared.cmp.Ordering.TheVariants.{Less, Equal, Greater}
+use Rattle.std.specs.declared.cmp.Ordering.TheVariants.{Equal}
 use Rattle.std.specs.Cmp.Lexicographic.{slice_cmp}
 use Rattle.std.specs.FinMap.Entries.{is_sorted, below_all, find, put, where_key, by_order}
 use Rattle.std.proofs.lemmas.Cmp.{nat_list_cmp_total, tied_itself}
 use Rattle.gopass_base.specs.Text.{Text}
+use Rattle.gopass_base.proofs.OrderLemmas.{above, both, less}
 use Rattle.mount_table.specs.Mounts.{IsBelow}
 use Rattle.recipient_files.specs.Ids.{Ids}
 use Rattle.path_rules.specs.RuleMap.{Rise}
@@ -15,20 +16,8 @@ use Rattle.path_rules.specs.RuleMap.{Rise}
 abbrev pub order : Text → Text → Ordering
 order = slice_cmp nat_cmp
 
-both : (a b : Bool) → T (a && b) → T a × T b
-both true b p = (tt, p)
-both false b p = absurd p
-
-less : (o : Ordering) → T (is_lt o) → o ≡ Less
-less Less p = refl
-less Equal p = absurd p
-less Greater p = absurd p
-
 pub ties : (q : Text) → order q q ≡ Equal
 ties q = tied_itself nat_list_cmp_total q
-
-pub above : (a b : Text) → IsBelow a b → order b a ≡ Greater
-above a b h = nat_list_cmp_total.antisymm b a ∙ ap ordering_reverse h
 
 below_each : (f : Text) (fs : List Text) (ss : List Ids) → length ss ≡ length fs → T (below_all order f (zip fs ss)) → (k : ℕ) → k < length fs → IsBelow f (get_or fs k [])
 below_each f [] ss e h k lt = absurd (omega arith)

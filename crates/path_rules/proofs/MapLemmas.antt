@@ -21,7 +21,8 @@ use Rattle.path_rules.specs.RuleMap.{RuleMap, rule_at, HasRule, AreEntries, map_
 use Rattle.path_rules.specs.Changes.{HasRoom}
 use Rattle.path_rules.specs.declared.entries.Spot.{Spot}
 use Rattle.path_rules.specs.declared.entries.Spot.TheVariants.{At, Before}
-use Rattle.path_rules.proofs.EntryLemmas.{order, above, rise, found, missing, put_found, put_missing, other_than, taken_out, keys_zip, length_zip}
+use Rattle.gopass_base.proofs.OrderLemmas.{above}
+use Rattle.path_rules.proofs.EntryLemmas.{order, rise, found, missing, put_found, put_missing, other_than, taken_out, keys_zip, length_zip}
 
 -- ---- where a folder stands
 

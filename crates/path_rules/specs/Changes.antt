@@ -14,12 +14,12 @@ HasRoom rules folder = HasRule rules folder ⊎ (map.len rules < 512)
 
 -- the folder gets the rule, and no other folder's changes; all stay as they are where 512 others have one, and where
 -- there is no memory
-abbrev pub Sets : Text → Ids → (old new : RuleMap) → Result (Unit {0}) RulesFault → Type 0
-Sets folder ids old new (Ok done) = HasRoom old folder × (new ≡ map.insert old folder ids)
-Sets folder ids old new (Err Full) = (rule_at old folder ≡ None) × (512 ≤ map.len old) × (new ≡ old)
-Sets folder ids old new (Err NoMemory) = HasRoom old folder × (new ≡ old)
+abbrev pub SetsRule : Text → Ids → (old new : RuleMap) → Result (Unit {0}) RulesFault → Type 0
+SetsRule folder ids old new (Ok done) = HasRoom old folder × (new ≡ map.insert old folder ids)
+SetsRule folder ids old new (Err Full) = (rule_at old folder ≡ None) × (512 ≤ map.len old) × (new ≡ old)
+SetsRule folder ids old new (Err NoMemory) = HasRoom old folder × (new ≡ old)
 
 -- the folder's rule goes and is handed over, and no other folder's changes; all stay where it has none
-abbrev pub Unsets : Text → (old new : RuleMap) → Result Ids Absent → Type 0
-Unsets folder old new (Ok ids) = (rule_at old folder ≡ Some ids) × (new ≡ map.remove old folder)
-Unsets folder old new (Err absent) = (rule_at old folder ≡ None) × (new ≡ old)
+abbrev pub UnsetsRule : Text → (old new : RuleMap) → Result Ids Absent → Type 0
+UnsetsRule folder old new (Ok ids) = (rule_at old folder ≡ Some ids) × (new ≡ map.remove old folder)
+UnsetsRule folder old new (Err absent) = (rule_at old folder ≡ None) × (new ≡ old)

@@ -6,6 +6,7 @@ use Rattle.std.specs.Cmp.Lexicographic.{slice_cmp}
 use Rattle.std.specs.FinMap as map
 use Rattle.std.specs.FinMap.Entries.{is_sorted}
 use Rattle.gopass_base.specs.Text.{Text}
+use Rattle.gopass_base.specs.Order.{TextMap}
 use Rattle.mount_table.specs.Mounts.{IsBelow}
 use Rattle.recipient_files.specs.Ids.{Ids}
 use Rattle.path_rules.specs.declared.entries.Spot.{Spot}
@@ -13,7 +14,7 @@ use Rattle.path_rules.specs.declared.entries.Spot.TheVariants.{At, Before}
 
 -- folders, each with its set of ids, in the order of bytes
 abbrev pub RuleMap : Type 0
-RuleMap = map.FinMap {K = Text} (slice_cmp nat_cmp) Ids
+RuleMap = TextMap Ids
 
 -- the rule of a folder
 abbrev pub rule_at : RuleMap → Text → Option Ids

@@ -31,12 +31,9 @@ pub fn affected(
 fn is_affected(before: &Rules, after: &Rules, mounts: &Mounts, name: &Name) -> bool
     ensures { result ≡ is_affected before.now after.now mounts.now name.now }
 {
-    // The rows rise by their aliases, so that one row alone is the mount of the name.
-    let _ = mounts.rows();
-    let place = mounts.resolve(name);
     match (
-        before.governing(name, &place),
-        after.governing(name, &place),
+        before.governing_in(mounts, name),
+        after.governing_in(mounts, name),
     ) {
         (None, None) => false,
         (Some(old), Some(new)) => !old.same(new),

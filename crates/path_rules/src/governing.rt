@@ -13,6 +13,7 @@ use mount_table::{Folder, Name};
 use recipient_files::Recipients;
 
 /// The index of the rule that governs the name among those of folders that end at `from` or behind.
+/// One folder is looked up at each part of the name from there on, and none at those before.
 pub(crate) fn nearest(
     folders: &[Folder],
     sets: &[Recipients],

@@ -8,7 +8,7 @@ mod rules;
 
 pub use change::affected;
 pub use governing::one_rule_governs;
-pub use rules::{Absent, Rules, RulesFault};
+pub use rules::{Absent, MOST_RULES, Rules, RulesFault};
 
 #[cfg(test)]
 mod tests;

@@ -5,20 +5,20 @@ ghost use Rattle.std.specs.FinMap as map;
 ghost use Rattle.mount_table.specs.Names.{parts};
 ghost use Rattle.mount_table.specs.NameFaults.{start_of};
 ghost use Rattle.path_rules.specs.RuleMap.{RuleMap, rule_at};
-ghost use Rattle.path_rules.specs.Changes.{Sets, Unsets};
-ghost use Rattle.path_rules.specs.Governing.{Governs, governing_below, IsPartStart};
+ghost use Rattle.path_rules.specs.Changes.{SetsRule, UnsetsRule};
+ghost use Rattle.path_rules.specs.Governing.{Governs, governing_below, governing_ids, IsPartStart};
 ghost use Rattle.path_rules.specs.declared.rules.RulesFault.TheVariants.{NoMemory};
 
 use crate::entries::{Spot, copies_of_folders, copies_of_sets, make_room, put_in, spot_of};
 use crate::governing::nearest;
 use gopass_base::NoMemory as NoRoom;
-use mount_table::{Folder, Name, Place};
+use mount_table::{Folder, Mounts, Name, Place};
 use recipient_files::Recipients;
 use std::alloc::{AllocError, Global};
 use std::marker::Model;
 
 /// The most folders that have a rule.
-const MOST_RULES: usize = 512;
+pub const MOST_RULES: usize = 512;
 
 /// Why a rule is not set.
 #[derive(Clone, Copy, Debug, PartialEq, Eq)]
@@ -84,7 +84,7 @@ impl Rules {
     /// Gives the folder this rule, in place of the one that it has. The rules stay as they are where
     /// it has none and 512 others have one, and where there is no memory.
     pub fn set(&mut self, folder: &Folder, ids: Recipients) -> Result<(), RulesFault>
-        ensures { Sets folder.now ids self.old self.new result }
+        ensures { SetsRule folder.now ids self.old self.new result }
     {
         match spot_of(&self.folders, folder.text().as_bytes()) {
             Spot::At(index) => {
@@ -104,7 +104,7 @@ impl Rules {
 
     /// Takes the folder's rule away, and gives it. Nothing is allocated.
     pub fn unset(&mut self, folder: &Folder) -> Result<Recipients, Absent>
-        ensures { Unsets folder.now self.old self.new result }
+        ensures { UnsetsRule folder.now self.old self.new result }
     {
         match spot_of(&self.folders, folder.text().as_bytes()) {
             Spot::At(index) => {
@@ -145,7 +145,7 @@ impl Rules {
 
     /// The rule that governs the secret: that of the longest folder that holds the name and has at
     /// least the parts of the alias of its mount, which end where `place.from` is. At each part of
-    /// the name one folder is looked up, and nothing is allocated.
+    /// the name from `place.from` on one folder is looked up, and nothing is allocated.
     pub fn governing(&self, name: &Name, place: &Place) -> Option<&Recipients>
         requires { IsPartStart name.now place.now.from }
         ensures rule { (least : ℕ) → least < length (parts name.now) → place.now.from ≡ start_of (parts name.now) least
@@ -155,5 +155,14 @@ impl Rules {
     {
         let index = nearest(&self.folders, &self.sets, name, place.from)?;
         Some(&self.sets[index])
+    }
+
+    /// The rule that governs the secret in its mount. Nothing is allocated.
+    pub fn governing_in(&self, mounts: &Mounts, name: &Name) -> Option<&Recipients>
+        ensures { option_map (λ set. set.now) result ≡ governing_ids self.now mounts.now name.now }
+    {
+        // The rows rise by their aliases, so that one row alone is the mount of the name.
+        let _ = mounts.rows();
+        self.governing(name, &mounts.resolve(name))
     }
 }

@@ -12,7 +12,8 @@ use Rattle.std.proofs.lemmas.List.Sorted.{All-permutation, Contains-permutation,
 use Rattle.std.proofs.lemmas.List.{take_more}
 use Rattle.std.proofs.lemmas.List.Elements.{All-push}
 use Rattle.std.proofs.lemmas.Slice.Eq.{bytes_eq-Decides}
-use Rattle.recipient_files.specs.Ids.{Ids, IsId, IsSetOf, IsRecipients}
+use Rattle.gopass_base.specs.Order.{IsSetOf}
+use Rattle.recipient_files.specs.Ids.{Ids, IsId, IsRecipients}
 
 -- what is left of the sorted ids is the set of the ids
 pub set_of_sorted : (ids sorted set : Ids) → IsPermutation ids sorted → IsSorted (slice_cmp nat_cmp) sorted

@@ -11,7 +11,7 @@ use Rattle.gopass_base.proofs.LineLemmas.{pair, pieces_cut, pieces_end}
 use Rattle.recipient_files.specs.Ids.{Ids, IsId}
 use Rattle.recipient_files.specs.IdText.{is_id}
 use Rattle.recipient_files.specs.RuleText.{BadLine, bad_at, left_of, text_fault, line_fault, with_line, bad_from, ids_from}
-use Rattle.recipient_files.specs.RuleReads.{Reads}
+use Rattle.recipient_files.specs.RuleReads.{ReadsRuleText}
 use Rattle.recipient_files.specs.declared.rule.RuleKind.TheVariants.{NotText, BadId}
 use Rattle.recipient_files.specs.declared.rule.RuleFault.{RuleFault}
 use Rattle.recipient_files.specs.declared.rule.RuleFault.TheVariants as rule
@@ -35,7 +35,7 @@ bad_text text utf8 bad =
 -- ---- what a reader answers
 
 -- a fault is passed on
-pub passed_on : {X Y : Type 0} (Is : X → Type 0) (Other : Y → Type 0) (fault : RuleFault) (bad all : Option BadLine) → Reads Is bad (Err fault) → ((b : BadLine) → bad ≡ Some b → all ≡ Some b) → Reads Other all (Err fault)
+pub passed_on : {X Y : Type 0} (Is : X → Type 0) (Other : Y → Type 0) (fault : RuleFault) (bad all : Option BadLine) → ReadsRuleText Is bad (Err fault) → ((b : BadLine) → bad ≡ Some b → all ≡ Some b) → ReadsRuleText Other all (Err fault)
 passed_on Is Other (rule.Bad number kind) bad all h f = f (bad_at number kind) h
 passed_on Is Other rule.NoMemory bad all h f = tt
 

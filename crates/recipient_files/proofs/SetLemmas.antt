@@ -11,12 +11,13 @@ use Rattle.std.specs.BTreeSet.{BTreeSet}
 use Rattle.std.proofs.lemmas.Cmp.{nat_list_cmp_total}
 use Rattle.std.proofs.lemmas.Map.Lookups.{btree_set_from_contains, exact_bytes}
 use Rattle.std.proofs.lemmas.Map.Views.{btree_set_contains_iff}
-use Rattle.std.proofs.lemmas.Bool.{or_cases, cases_Bool, false_from_ne_true}
+use Rattle.std.proofs.lemmas.Bool.{or_cases, or_right, cases_Bool, false_from_ne_true}
 use Rattle.std.proofs.lemmas.List.Elements.{All-head, All-tail, All-cons}
 use Rattle.std.proofs.lemmas.List.Kept.{IsStrictlySortedBy-filter}
 use Rattle.std.proofs.lemmas.Slice.Eq.{bytes_eq-Decides}
 use Rattle.gopass_base.specs.Text.{Text}
-use Rattle.recipient_files.specs.Ids.{Ids, IsId, IsRising, IsSetOf, IsRecipients, is_among, without}
+use Rattle.gopass_base.specs.Order.{IsRising, IsSetOf}
+use Rattle.recipient_files.specs.Ids.{Ids, IsId, IsRecipients, is_among, without}
 
 -- the test tells whether an id is there
 among_has : (ids : Ids) (id : Text) → is_among ids id ≡ true → Contains ids id
@@ -30,10 +31,6 @@ has_among : (ids : Ids) (id : Text) (k : ℕ) → k < length ids → (d : Text) 
 has_among [] id k lt d at = absurd (omega arith)
 has_among (one ∷ ids) id zero lt d at = ap (λ t. t || is_among ids id) ((bytes_eq-Decides one id).1 at)
 has_among (one ∷ ids) id (suc k) lt d at = or_right (bytes_eq one id) (is_among ids id) (has_among ids id k (omega arith) d at)
-  where
-    or_right : (a b : Bool) → b ≡ true → (a || b) ≡ true
-    or_right true b e = refl
-    or_right false b e = e
 
 pub is_among_tells : (ids : Ids) (id : Text) → Decides (is_among ids id) (Contains ids id)
 is_among_tells ids id = (among_has ids id, λ (k, lt, at). has_among ids id k lt id at)

@@ -1,7 +1,8 @@
 -- What changes of a set of recipients answer.
 use Rattle.std.specs.Prelude.{◌≡◌, ◌<◌, [], ◌∷◌, ◌++◌, length, Contains, Result, Ok, Err}
 use Rattle.gopass_base.specs.Text.{Text}
-use Rattle.recipient_files.specs.Ids.{Ids, IsSetOf, without}
+use Rattle.gopass_base.specs.Order.{IsSetOf}
+use Rattle.recipient_files.specs.Ids.{Ids, without}
 use Rattle.recipient_files.specs.declared.recipients.IdAddFault.{IdAddFault}
 use Rattle.recipient_files.specs.declared.recipients.IdAddFault.TheVariants.{Already, Full, NoMemory}
 use Rattle.recipient_files.specs.declared.recipients.IdRemoveFault.{IdRemoveFault}
@@ -9,14 +10,14 @@ use Rattle.recipient_files.specs.declared.recipients.IdRemoveFault.TheVariants.{
 
 -- an id that is not there goes into a set of fewer than 64; the set stays as it is where the id is there, where it has
 -- 64 others, and where there is no memory
-abbrev pub Adds : (id : Text) (old new : Ids) → Result (Unit {0}) IdAddFault → Type 0
-Adds id old new (Ok done) = (¬ Contains old id) × (length old < 64) × IsSetOf new (old ++ id ∷ [])
-Adds id old new (Err Already) = Contains old id × (new ≡ old)
-Adds id old new (Err Full) = (¬ Contains old id) × (length old ≡ 64) × (new ≡ old)
-Adds id old new (Err NoMemory) = (¬ Contains old id) × (length old < 64) × (new ≡ old)
+abbrev pub AddsId : (id : Text) (old new : Ids) → Result (Unit {0}) IdAddFault → Type 0
+AddsId id old new (Ok done) = (¬ Contains old id) × (length old < 64) × IsSetOf new (old ++ id ∷ [])
+AddsId id old new (Err Already) = Contains old id × (new ≡ old)
+AddsId id old new (Err Full) = (¬ Contains old id) × (length old ≡ 64) × (new ≡ old)
+AddsId id old new (Err NoMemory) = (¬ Contains old id) × (length old < 64) × (new ≡ old)
 
 -- an id that is there and not alone goes out; the set stays as it is where the id is not there, and where it is the last
-abbrev pub Removes : (id : Text) (old new : Ids) → Result (Unit {0}) IdRemoveFault → Type 0
-Removes id old new (Ok done) = Contains old id × (1 < length old) × (new ≡ without old id)
-Removes id old new (Err Absent) = (¬ Contains old id) × (new ≡ old)
-Removes id old new (Err Last) = Contains old id × (length old ≡ 1) × (new ≡ old)
+abbrev pub RemovesId : (id : Text) (old new : Ids) → Result (Unit {0}) IdRemoveFault → Type 0
+RemovesId id old new (Ok done) = Contains old id × (1 < length old) × (new ≡ without old id)
+RemovesId id old new (Err Absent) = (¬ Contains old id) × (new ≡ old)
+RemovesId id old new (Err Last) = Contains old id × (length old ≡ 1) × (new ≡ old)

@@ -1,11 +1,9 @@
 -- Ids of recipients, and sets of them.
-use Rattle.std.specs.Prelude.{◌≢◌, ◌↔◌, ℕ, ◌-◌, ◌≤◌, Bool, not, bytes_eq, filter, List, length, slice_index, All, Contains}
+use Rattle.std.specs.Prelude.{◌≢◌, ℕ, ◌-◌, ◌≤◌, Bool, not, bytes_eq, filter, List, length, slice_index, All}
 use Rattle.std.specs.List.{list_any}
 use Rattle.std.specs.Str.{IsUtf8}
-use Rattle.std.specs.Ordering.{nat_cmp}
-use Rattle.std.specs.Cmp.Lexicographic.{slice_cmp}
-use Rattle.std.specs.List.Sorted.{IsStrictlySortedBy}
 use Rattle.gopass_base.specs.Text.{Text, IsPrintable}
+use Rattle.gopass_base.specs.Order.{IsRising}
 
 -- no space, and not the first byte of an option (`-`) or of a group (`@`)
 abbrev pub CanBegin : ℕ → Type 0
@@ -32,18 +30,9 @@ is_among ids id = list_any (λ one. bytes_eq one id) ids
 abbrev pub without : Ids → Text → Ids
 without ids id = filter (λ one. not (bytes_eq one id)) ids
 
--- each id is below those behind it, by bytes
-abbrev pub IsRising : Ids → Type 0
-IsRising ids = IsStrictlySortedBy (slice_cmp nat_cmp) ids
-
 -- a set of recipients: 1 to 64 ids in rising order
 pub record IsRecipients (ids : Ids) : Type 0 where
   pub some : 1 ≤ length ids
   pub few : length ids ≤ 64
   pub each : All IsId ids
   pub rising : IsRising ids
-
--- the set of the ids of a list, in rising order
-pub record IsSetOf (set ids : Ids) : Type 0 where
-  pub rising : IsRising set
-  pub same : (id : Text) → Contains set id ↔ Contains ids id

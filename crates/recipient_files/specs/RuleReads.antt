@@ -9,18 +9,18 @@ use Rattle.recipient_files.specs.declared.rule.LineFault.{LineFault}
 use Rattle.recipient_files.specs.declared.rule.LineFault.TheVariants as line
 
 -- a value for which this holds, or the first bad line; want of memory may stand for both
-abbrev pub Reads : {X : Type 0} → (X → Type 0) → Option BadLine → Result X RuleFault → Type 0
-Reads Is bad (Ok x) = (bad ≡ None) × Is x
-Reads Is bad (Err (rule.Bad number kind)) = bad ≡ Some (bad_at number kind)
-Reads Is bad (Err rule.NoMemory) = Unit {0}
+abbrev pub ReadsRuleText : {X : Type 0} → (X → Type 0) → Option BadLine → Result X RuleFault → Type 0
+ReadsRuleText Is bad (Ok x) = (bad ≡ None) × Is x
+ReadsRuleText Is bad (Err (rule.Bad number kind)) = bad ≡ Some (bad_at number kind)
+ReadsRuleText Is bad (Err rule.NoMemory) = Unit {0}
 
 -- the same of one line, whose number is not known yet
-abbrev pub ReadsLine : {X : Type 0} → (X → Type 0) → Option RuleKind → Result X LineFault → Type 0
-ReadsLine Is bad (Ok x) = (bad ≡ None) × Is x
-ReadsLine Is bad (Err (line.Bad kind)) = bad ≡ Some kind
-ReadsLine Is bad (Err line.NoMemory) = Unit {0}
+abbrev pub ReadsIdLine : {X : Type 0} → (X → Type 0) → Option RuleKind → Result X LineFault → Type 0
+ReadsIdLine Is bad (Ok x) = (bad ≡ None) × Is x
+ReadsIdLine Is bad (Err (line.Bad kind)) = bad ≡ Some kind
+ReadsIdLine Is bad (Err line.NoMemory) = Unit {0}
 
 -- ids read so far: at most 64
-pub record IsSoFar (ids : Ids) : Type 0 where
+pub record AreSomeIds (ids : Ids) : Type 0 where
   pub few : length ids ≤ 64
   pub each : All IsId ids

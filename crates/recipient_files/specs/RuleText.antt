@@ -5,7 +5,8 @@ use Rattle.std.specs.List.{flat_map}
 use Rattle.std.specs.Str.{is_utf8}
 use Rattle.gopass_base.specs.Text.{Text}
 use Rattle.gopass_base.specs.Lines.{cut_at, pieces_of}
-use Rattle.recipient_files.specs.Ids.{Ids, IsSetOf, is_among}
+use Rattle.gopass_base.specs.Order.{IsSetOf}
+use Rattle.recipient_files.specs.Ids.{Ids, is_among}
 use Rattle.recipient_files.specs.IdText.{is_id}
 use Rattle.recipient_files.specs.declared.rule.RuleKind.{RuleKind}
 use Rattle.recipient_files.specs.declared.rule.RuleKind.TheVariants.{NotText, BadId, TooMany, None as NoId}

@@ -59,6 +59,7 @@ impl Id {
         })
     }
 
+    /// The bytes of the text.
     pub fn text(&self) -> &str
         ensures text { result.now ≡ self.now }
         ensures good { IsId self.now }

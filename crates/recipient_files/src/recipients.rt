@@ -2,10 +2,11 @@
 
 ghost use Rattle.std.specs.Prelude.{◌≡◌, ◌≢◌, ◌↔◌, ◌<◌, ◌≤◌, [], ◌∷◌, ◌++◌, ℕ, List, length, IsTrue, IsOk, IfOk, Err, All, Contains, MatchResult};
 ghost use Rattle.gopass_base.specs.Text.{Text};
-ghost use Rattle.recipient_files.specs.Ids.{Ids, IsId, IsSetOf, IsRecipients, is_among, without};
-ghost use Rattle.recipient_files.specs.Changes.{Adds, Removes};
+ghost use Rattle.gopass_base.specs.Order.{IsSetOf};
+ghost use Rattle.recipient_files.specs.Ids.{Ids, IsId, IsRecipients, is_among, without};
+ghost use Rattle.recipient_files.specs.Changes.{AddsId, RemovesId};
 ghost use Rattle.recipient_files.specs.RuleText.{IsRule, ids_of, first_bad_line, rule_text};
-ghost use Rattle.recipient_files.specs.RuleReads.{Reads};
+ghost use Rattle.recipient_files.specs.RuleReads.{ReadsRuleText};
 ghost use Rattle.recipient_files.specs.declared.recipients.OfFault.TheVariants.{NoMemory};
 ghost use Rattle.recipient_files.specs.declared.recipients.IdAddFault.TheVariants.{NoMemory as no_room};
 
@@ -110,7 +111,7 @@ impl Recipients {
     /// at its ends. A line of which nothing is left names none, and an id that is named twice
     /// counts once. The last line need not end with an LF.
     pub fn read(alloc: Global, bytes: &[u8]) -> Result<Recipients, RuleFault>
-        ensures { Reads (λ set. IsSetOf set (ids_of bytes.now)) (first_bad_line bytes.now) result }
+        ensures { ReadsRuleText (λ set. IsSetOf set (ids_of bytes.now)) (first_bad_line bytes.now) result }
     {
         let ids = read_lines(alloc, bytes)?;
         if ids.is_empty() {
@@ -162,7 +163,7 @@ impl Recipients {
 
     /// Adds an id. The set stays as it is where it has the id, or else 64 others.
     pub fn add(&mut self, id: &Id) -> Result<(), IdAddFault>
-        ensures { Adds id.now self.old self.new result }
+        ensures { AddsId id.now self.old self.new result }
     {
         if has(&self.ids, id) {
             return Err(IdAddFault::Already);
@@ -177,7 +178,7 @@ impl Recipients {
 
     /// Takes an id out. The set stays as it is where it has not the id, or else no other one.
     pub fn remove(&mut self, id: &Id) -> Result<(), IdRemoveFault>
-        ensures { Removes id.now self.old self.new result }
+        ensures { RemovesId id.now self.old self.new result }
     {
         if !has(&self.ids, id) {
             return Err(IdRemoveFault::Absent);

@@ -4,7 +4,7 @@ ghost use Rattle.std.specs.Prelude.{◌≡◌, [], ℕ, option_map};
 ghost use Rattle.gopass_base.specs.Lines.{pieces_of};
 ghost use Rattle.recipient_files.specs.Ids.{IsId};
 ghost use Rattle.recipient_files.specs.RuleText.{before_hash, trim_start, trim_end, left_of, text_fault, room_fault, line_fault, with_id, with_line, bad_at, bad_from, ids_from};
-ghost use Rattle.recipient_files.specs.RuleReads.{Reads, ReadsLine, IsSoFar};
+ghost use Rattle.recipient_files.specs.RuleReads.{ReadsRuleText, ReadsIdLine, AreSomeIds};
 ghost use Rattle.recipient_files.specs.declared.rule.LineFault.TheVariants.{NoMemory};
 
 use crate::recipients::{MOST_IDS, is_among};
@@ -50,7 +50,7 @@ impl<T: Drop> From<AllocFailed<T>> for LineFault {
 
 /// The ids of the lines, each where it first stands.
 pub(crate) fn read_lines(alloc: Global, bytes: &[u8]) -> Result<Vec<Id>, RuleFault>
-    ensures { Reads (λ ids. (ids.items ≡ ids_from [] (pieces_of bytes.now)) × IsSoFar ids.items) (bad_from 1 [] (pieces_of bytes.now)) result }
+    ensures { ReadsRuleText (λ ids. (ids.items ≡ ids_from [] (pieces_of bytes.now)) × AreSomeIds ids.items) (bad_from 1 [] (pieces_of bytes.now)) result }
 {
     let mut ids = Vec::new(alloc);
     let mut rest = bytes;
@@ -71,8 +71,8 @@ fn add_numbered(
     number: usize,
     line: &[u8],
 ) -> Result<(), RuleFault>
-    requires { IsSoFar ids.old.items }
-    ensures { Reads (λ _. (ids.new.items ≡ with_line ids.old.items (left_of line.now)) × IsSoFar ids.new.items) (option_map (bad_at number) (line_fault ids.old.items (left_of line.now))) result }
+    requires { AreSomeIds ids.old.items }
+    ensures { ReadsRuleText (λ _. (ids.new.items ≡ with_line ids.old.items (left_of line.now)) × AreSomeIds ids.new.items) (option_map (bad_at number) (line_fault ids.old.items (left_of line.now))) result }
 {
     match add_line(alloc, ids, line) {
         Ok(()) => Ok(()),
@@ -83,8 +83,8 @@ fn add_numbered(
 
 /// Adds the id of a line, where it has one that is new.
 fn add_line(alloc: Global, ids: &mut Vec<Id>, line: &[u8]) -> Result<(), LineFault>
-    requires { IsSoFar ids.old.items }
-    ensures { ReadsLine (λ _. (ids.new.items ≡ with_line ids.old.items (left_of line.now)) × IsSoFar ids.new.items) (line_fault ids.old.items (left_of line.now)) result }
+    requires { AreSomeIds ids.old.items }
+    ensures { ReadsIdLine (λ _. (ids.new.items ≡ with_line ids.old.items (left_of line.now)) × AreSomeIds ids.new.items) (line_fault ids.old.items (left_of line.now)) result }
 {
     let left = left_of(line);
     if left.is_empty() {
@@ -96,9 +96,9 @@ fn add_line(alloc: Global, ids: &mut Vec<Id>, line: &[u8]) -> Result<(), LineFau
 
 /// Adds an id, where it is new.
 fn add_id(ids: &mut Vec<Id>, id: Id) -> Result<(), LineFault>
-    requires so_far { IsSoFar ids.old.items }
+    requires so_far { AreSomeIds ids.old.items }
     requires good { IsId id }
-    ensures { ReadsLine (λ _. (ids.new.items ≡ with_id ids.old.items id) × IsSoFar ids.new.items) (room_fault ids.old.items id) result }
+    ensures { ReadsIdLine (λ _. (ids.new.items ≡ with_id ids.old.items id) × AreSomeIds ids.new.items) (room_fault ids.old.items id) result }
 {
     if is_among(ids, &id) {
         return Ok(());
@@ -111,7 +111,7 @@ fn add_id(ids: &mut Vec<Id>, id: Id) -> Result<(), LineFault>
 }
 
 fn read_id(alloc: Global, bytes: &[u8]) -> Result<Id, LineFault>
-    ensures { ReadsLine (λ id. (id ≡ bytes.now) × IsId id) (text_fault bytes.now) result }
+    ensures { ReadsIdLine (λ id. (id ≡ bytes.now) × IsId id) (text_fault bytes.now) result }
 {
     let Ok(text) = str::from_utf8(bytes) else {
         return Err(LineFault::Bad(RuleKind::NotText));

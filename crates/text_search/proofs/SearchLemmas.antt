@@ -1,7 +1,7 @@
 -- A text stands in bytes exactly where it occurs at some place of them.
-use Rattle.std.proofs.Common.{◌≡◌, ℕ, zero, suc, ◌+◌, Bool, true, false, ◌||◌, ◌⊎◌, nat_eq, [], ◌∷◌, length, take, slice_index, Option, None, Some, is_some, refl, sym, ap, ◌∙◌, arith, inl, inr, length-take}
+use Rattle.std.proofs.Common.{◌≡◌, ℕ, zero, suc, ◌+◌, true, ◌||◌, nat_eq, [], ◌∷◌, length, take, slice_index, Option, None, Some, is_some, sym, ap, ◌∙◌, arith, inl, inr, length-take}
 use Rattle.std.specs.List.{starts_with}
-use Rattle.std.proofs.lemmas.Bool.{cases_Bool, eqb-true, eq-eqb}
+use Rattle.std.proofs.lemmas.Bool.{cases_Bool, or_cases, or_right, eqb-true, eq-eqb}
 use Rattle.std.proofs.lemmas.Slice.Eq.{bytes_eq-Decides}
 use Rattle.gopass_base.specs.Text.{Text}
 use Rattle.memchr.specs.Find.{OccursAt, FindsNeedle}
@@ -28,20 +28,12 @@ earlier text bytes b k at = record {
   reads = λ j lt. let place : suc k + j ≡ suc (k + j) = omega arith in sym (ap (λ n. slice_index (b ∷ bytes) n) place) ∙ at.reads j lt;
 }
 
-either : (x y : Bool) → x || y ≡ true → (x ≡ true) ⊎ (y ≡ true)
-either true y e = inl refl
-either false y e = inr e
-
-second : (x y : Bool) → y ≡ true → x || y ≡ true
-second true y e = refl
-second false y e = e
-
 -- a text that the bytes have occurs somewhere
 pub place_of : (text bytes : Text) → has_text text bytes ≡ true → (k : ℕ) × OccursAt bytes text k
 place_of text [] had =
     let none : length text ≡ 0 = eqb-true (length text) 0 had in
     (0, record { fits = omega (arith, none); reads = λ j lt. absurd (omega (arith, none, lt)) })
-place_of text (b ∷ bytes) had = elim (either (starts_with nat_eq (b ∷ bytes) text) (has_text text bytes) had) [
+place_of text (b ∷ bytes) had = elim (or_cases (starts_with nat_eq (b ∷ bytes) text) (has_text text bytes) had) [
   | inl here ↦ (0, begun text (b ∷ bytes) here)
   | inr behind ↦ let (k, at) = place_of text bytes behind in (suc k, later text bytes b k at)
 ]
@@ -50,7 +42,7 @@ place_of text (b ∷ bytes) had = elim (either (starts_with nat_eq (b ∷ bytes)
 pub has_at : (text bytes : Text) (k : ℕ) → OccursAt bytes text k → has_text text bytes ≡ true
 has_at text [] k at = eq-eqb (length text) 0 (omega (arith, at.fits))
 has_at text (b ∷ bytes) zero at = ap (λ x. x || has_text text bytes) (begins text (b ∷ bytes) at)
-has_at text (b ∷ bytes) (suc k) at = second (starts_with nat_eq (b ∷ bytes) text) (has_text text bytes) (has_at text bytes k (earlier text bytes b k at))
+has_at text (b ∷ bytes) (suc k) at = or_right (starts_with nat_eq (b ∷ bytes) text) (has_text text bytes) (has_at text bytes k (earlier text bytes b k at))
 
 -- a search for the text finds a place exactly where the bytes have it
 pub found_where_had : (text bytes : Text) (r : Option ℕ) → FindsNeedle bytes text 0 r → is_some r ≡ has_text text bytes

@@ -21,18 +21,18 @@ loop-line-init c = record {
 }
 
 pub loop-line-smaller : goal.loop-line-smaller
-loop-line-smaller c = omega (arith, cut_shorter 10 c.loop-line.rest.now c.in-Some.line.now c.in-Some.after.now (sym c.in-Some.ensures))
+loop-line-smaller c = omega (arith, cut_shorter 10 c.loop-line.rest.now c.in-Some.line.now c.in-Some.after.now (sym c.in-Some.ensures.computed))
 
 pub returns-in_default-strip_prefix : goal.returns-in_default-strip_prefix
 returns-in_default-strip_prefix c =
     same_read content c.read_end.result (from_body c.loop-line.ids.items c.in-Some.line.now (pieces_of c.in-Some.after.now)) (from_recipients [] (pieces_of c.args.lines.now)) c.read_end.ensures
-    (line_other c.loop-line.ids.items c.loop-line.rest.now c.in-Some.line.now c.in-Some.after.now (from_recipients [] (pieces_of c.args.lines.now)) c.loop-line.invariant.rest c.in-Some.ensures c.in_default-strip_prefix.ensures.cases)
+    (line_other c.loop-line.ids.items c.loop-line.rest.now c.in-Some.line.now c.in-Some.after.now (from_recipients [] (pieces_of c.args.lines.now)) c.loop-line.invariant.rest c.in-Some.ensures.computed c.in_default-strip_prefix.ensures.cases)
 
 pub returns-in_err-add_id : goal.returns-in_err-add_id
 returns-in_err-add_id c =
     let p = err_from_is_err_and c.from_residual.result c.from_residual.ensures.1 in
     rw (p.1, p.2) (passed_on {X = Unit {0}} c.in_err-add_id.field-0.0 (λ _. c.add_id.new.ids.items) content (with_id c.loop-line.ids.items c.in-Some-strip_prefix.text.now) (from_recipients [] (pieces_of c.args.lines.now)) c.in_err-add_id.ensures
-    (λ refused. line_refused c.loop-line.ids.items c.loop-line.rest.now c.in-Some.line.now c.in-Some.after.now (from_recipients [] (pieces_of c.args.lines.now)) c.loop-line.invariant.rest c.in-Some.ensures c.in-Some-strip_prefix.ensures.cases.0
+    (λ refused. line_refused c.loop-line.ids.items c.loop-line.rest.now c.in-Some.line.now c.in-Some.after.now (from_recipients [] (pieces_of c.args.lines.now)) c.loop-line.invariant.rest c.in-Some.ensures.computed c.in-Some-strip_prefix.ensures.cases.0
     (subst (λ t. with_id c.loop-line.ids.items t ≡ None) c.in-Some-strip_prefix.ensures.cases.1 refused)))
 
 pub loop-line-preserved : goal.loop-line-preserved
@@ -40,8 +40,8 @@ loop-line-preserved c =
     let taken : with_id c.loop-line.ids.items (drop 3 c.in-Some.line.now) ≡ Some c.add_id.new.ids.items = subst (λ t. with_id c.loop-line.ids.items t ≡ Some c.add_id.new.ids.items) c.in-Some-strip_prefix.ensures.cases.1 c.in_ok-add_id.ensures in
     record {
       ids = (with_id_gives c.loop-line.ids.items (drop 3 c.in-Some.line.now) c.add_id.new.ids.items c.loop-line.invariant.ids taken).1;
-      rest = line_taken c.loop-line.ids.items c.add_id.new.ids.items c.loop-line.rest.now c.in-Some.line.now c.in-Some.after.now (from_recipients [] (pieces_of c.args.lines.now)) c.loop-line.invariant.rest c.in-Some.ensures c.in-Some-strip_prefix.ensures.cases.0 taken;
+      rest = line_taken c.loop-line.ids.items c.add_id.new.ids.items c.loop-line.rest.now c.in-Some.line.now c.in-Some.after.now (from_recipients [] (pieces_of c.args.lines.now)) c.loop-line.invariant.rest c.in-Some.ensures.computed c.in-Some-strip_prefix.ensures.cases.0 taken;
     }
 
 pub returns : goal.returns
-returns c = lines_done c.loop-line.ids.items c.loop-line.rest.now (from_recipients [] (pieces_of c.args.lines.now)) c.loop-line.invariant.rest c.in_default.ensures
+returns c = lines_done c.loop-line.ids.items c.loop-line.rest.now (from_recipients [] (pieces_of c.args.lines.now)) c.loop-line.invariant.rest c.in_default.ensures.computed

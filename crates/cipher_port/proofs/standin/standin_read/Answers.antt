@@ -12,21 +12,21 @@ abbrev content : Sealed → Content
 content sealed = made_of sealed.to sealed.body.items
 
 pub returns-in_default-clause-other : goal.returns-in_default-clause-other
-returns-in_default-clause-other c = λ _. header_missing c.args.bytes.now c.in_default.ensures
+returns-in_default-clause-other c = λ _. header_missing c.args.bytes.now c.in_default.ensures.computed
 
 pub returns-then-ne-clause-other : goal.returns-then-ne-clause-other
 returns-then-ne-clause-other c = λ _.
-    header_refused c.args.bytes.now c.in-Some.header.now c.in-Some.lines.now c.in-Some.ensures
+    header_refused c.args.bytes.now c.in-Some.header.now c.in-Some.lines.now c.in-Some.ensures.computed
     (sym (ap (bytes_eq c.in-Some.header.now) c.as_slice.ensures) ∙ not-true (bytes_eq c.in-Some.header.now c.as_slice.result.now) (sym c.ne.ensures ∙ c.if-ne.true))
 
 pub returns-clause-found : goal.returns-clause-found
 returns-clause-found c =
     read_ok content c.read_lines.result (from_recipients [] (pieces_of c.in-Some.lines.now)) (standin_content c.args.bytes.now) c.read_lines.ensures
-    (header_read c.args.bytes.now c.in-Some.header.now c.in-Some.lines.now c.in-Some.ensures
+    (header_read c.args.bytes.now c.in-Some.header.now c.in-Some.lines.now c.in-Some.ensures.computed
     (sym (ap (bytes_eq c.in-Some.header.now) c.as_slice.ensures) ∙ not-false (bytes_eq c.in-Some.header.now c.as_slice.result.now) (sym c.ne.ensures ∙ c.if-ne.false)))
 
 pub returns-clause-other : goal.returns-clause-other
 returns-clause-other c =
     read_none content c.read_lines.result (from_recipients [] (pieces_of c.in-Some.lines.now)) (standin_content c.args.bytes.now) c.read_lines.ensures
-    (header_read c.args.bytes.now c.in-Some.header.now c.in-Some.lines.now c.in-Some.ensures
+    (header_read c.args.bytes.now c.in-Some.header.now c.in-Some.lines.now c.in-Some.ensures.computed
     (sym (ap (bytes_eq c.in-Some.header.now) c.as_slice.ensures) ∙ not-false (bytes_eq c.in-Some.header.now c.as_slice.result.now) (sym c.ne.ensures ∙ c.if-ne.false)))

@@ -1,5 +1,6 @@
 use Rattle.std.proofs.Common.{◌≤◌, ◌++◌, [], ◌∷◌, length, rules, arith}
-use Rattle.recipient_files.specs.Ids.{IsRecipients, IsSetOf}
+use Rattle.gopass_base.specs.Order.{IsSetOf}
+use Rattle.recipient_files.specs.Ids.{IsRecipients}
 use Rattle.recipient_files.proofs.SetLemmas.{recipients_with}
 use Rattle.recipient_files.proofs.recipients.Recipients.add.Goals as goal
 

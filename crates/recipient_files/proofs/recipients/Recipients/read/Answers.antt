@@ -3,9 +3,10 @@ use Rattle.std.proofs.lemmas.Bool.{eq-eqb, ne_eqb}
 use Rattle.std.proofs.lemmas.Bool.Decides.{nat_tests}
 use Rattle.std.proofs.lemmas.Result.{err_from_is_err_and}
 use Rattle.gopass_base.specs.Lines.{pieces_of}
-use Rattle.recipient_files.specs.Ids.{Ids, IsSetOf}
+use Rattle.gopass_base.specs.Order.{IsSetOf}
+use Rattle.recipient_files.specs.Ids.{Ids}
 use Rattle.recipient_files.specs.RuleText.{bad_from, ids_from, ids_of, first_bad_line}
-use Rattle.recipient_files.specs.RuleReads.{IsSoFar}
+use Rattle.recipient_files.specs.RuleReads.{AreSomeIds}
 use Rattle.recipient_files.specs.declared.id.Id.{Id}
 use Rattle.recipient_files.proofs.RuleLemmas.{passed_on}
 use Rattle.recipient_files.proofs.ReadLemmas.{bad_line_first, bad_line_none}
@@ -15,7 +16,7 @@ use Rattle.recipient_files.proofs.recipients.Recipients.read.Goals as goal
 pub returns-in_err-ids : goal.returns-in_err-ids
 returns-in_err-ids c =
     let p = err_from_is_err_and c.from_residual.result c.from_residual.ensures.1 in
-    rw (p.1, p.2) (passed_on {X = Vec Id Global} {Y = Ids} (λ ids. (ids.items ≡ ids_from [] (pieces_of c.args.bytes.now)) × IsSoFar ids.items) (λ set. IsSetOf set (ids_of c.args.bytes.now)) c.in_err-ids.field-0.0 (bad_from 1 [] (pieces_of c.args.bytes.now)) (first_bad_line c.args.bytes.now) c.in_err-ids.ensures
+    rw (p.1, p.2) (passed_on {X = Vec Id Global} {Y = Ids} (λ ids. (ids.items ≡ ids_from [] (pieces_of c.args.bytes.now)) × AreSomeIds ids.items) (λ set. IsSetOf set (ids_of c.args.bytes.now)) c.in_err-ids.field-0.0 (bad_from 1 [] (pieces_of c.args.bytes.now)) (first_bad_line c.args.bytes.now) c.in_err-ids.ensures
     (λ b is. bad_line_first c.args.bytes.now b is))
 
 pub returns-then-is_empty : goal.returns-then-is_empty
