@@ -8,7 +8,7 @@ use Rattle.std.specs.FinMap.Entries.{find-put, find-where_key, is_sorted-put, is
 use Rattle.std.specs.FinMap.{nat_cmp-IsAntisymmetric, slice_cmp-IsAntisymmetric}
 use Rattle.std.proofs.Math.Dec.{ltb}
 use Rattle.std.proofs.Math.Path.{fun_ext}
-use Rattle.std.proofs.lemmas.Bool.{false≢true, lt-ltb, le-ltb, ltb-true}
+use Rattle.std.proofs.lemmas.Bool.{false≢true, and_parts, and_from, lt-ltb, le-ltb, ltb-true}
 use Rattle.std.proofs.lemmas.Map.Text.{is_eq-slice_cmp}
 use Rattle.gopass_base.specs.Text.{Text}
 use Rattle.disk_model.specs.Files.{Files, put, moved, moved_file}
@@ -164,31 +164,24 @@ before_more k n (d ∷ log) e lt = elim (ltb d.0 k) as (λ b. (if b then d.1 ∷
   | false ↦ before_more k n log e lt
 ]
 
-both_true : (a b : Bool) → a && b ≡ true → (a ≡ true) × (b ≡ true)
-both_true true b e = (refl, e)
-both_true false b e = absurd (false≢true e)
-
-and_true : (a b : Bool) → a ≡ true → b ≡ true → a && b ≡ true
-and_true a b x y = ap (λ t. t && b) x ∙ y
-
 pub past_later : (k n : ℕ) (log : Log) → n ≤ k → is_past n log ≡ true → is_past k log ≡ true
 past_later k n [] le h = refl
 past_later k n (d ∷ log) le h =
-    let tests = both_true (ltb d.0 n) (is_past n log) h in
+    let tests = and_parts (ltb d.0 n) (is_past n log) h in
     let lt : d.0 < n = ltb-true d.0 n tests.0 in
-    and_true (ltb d.0 k) (is_past k log) (lt-ltb d.0 k (omega (arith, lt))) (past_later k n log le tests.1)
+    and_from (ltb d.0 k) (is_past k log) (lt-ltb d.0 k (omega (arith, lt))) (past_later k n log le tests.1)
 
 pub past_push : (k n : ℕ) (log : Log) (e : Event) → n < k → is_past k log ≡ true → is_past k (log ++ (n, e) ∷ []) ≡ true
-past_push k n [] e lt h = and_true (ltb n k) true (lt-ltb n k lt) refl
+past_push k n [] e lt h = and_from (ltb n k) true (lt-ltb n k lt) refl
 past_push k n (d ∷ log) e lt h =
-    let tests = both_true (ltb d.0 k) (is_past k log) h in
-    and_true (ltb d.0 k) (is_past k (log ++ (n, e) ∷ [])) tests.0 (past_push k n log e lt tests.1)
+    let tests = and_parts (ltb d.0 k) (is_past k log) h in
+    and_from (ltb d.0 k) (is_past k (log ++ (n, e) ∷ [])) tests.0 (past_push k n log e lt tests.1)
 
 -- the first n calls did all of it
 pub past_before : (k n : ℕ) (log : Log) → n ≤ k → is_past n log ≡ true → before k log ≡ before n log
 past_before k n [] le h = refl
 past_before k n (d ∷ log) le h =
-    let tests = both_true (ltb d.0 n) (is_past n log) h in
+    let tests = and_parts (ltb d.0 n) (is_past n log) h in
     let lt : d.0 < n = ltb-true d.0 n tests.0 in
     let here : ltb d.0 k ≡ ltb d.0 n = lt-ltb d.0 k (omega (arith, lt)) ∙ sym tests.0 in
     let rest : before k log ≡ before n log = past_before k n log le tests.1 in

@@ -1,5 +1,5 @@
 -- What a listing has: the rest of a path behind a directory, and the paths of a list of files.
-use Rattle.std.proofs.Common.{◌≡◌, ◌≢◌, ◌⊎◌, inl, inr, ℕ, zero, suc, ◌==◌, Bool, true, false, not, ◌&&◌, ◌||◌, T, List, [], ◌∷◌, ◌++◌, cond, map, Option, Some, None, Bor, if◌then◌else◌, bytes_eq, refl, ap, sym, ◌∙◌, subst, arith}
+use Rattle.std.proofs.Common.{◌≡◌, ◌≢◌, inl, inr, ℕ, ◌==◌, true, false, not, ◌||◌, T, List, [], ◌∷◌, ◌++◌, cond, map, Option, Some, None, Bor, if◌then◌else◌, bytes_eq, refl, ap, sym, ◌∙◌, subst, arith}
 use Rattle.std.specs.Prelude.{MatchOption, filter, Contains, All, codes}
 use Rattle.std.specs.List.{list_any, AllByRecursion}
 use Rattle.std.specs.List.Sorted.{IsStrictlySortedBy}
@@ -8,16 +8,20 @@ use Rattle.std.specs.declared.cmp.Ordering.{Ordering}
 use Rattle.std.specs.declared.cmp.Ordering.TheVariants.{Less, Equal, Greater}
 use Rattle.std.specs.Cmp.Lexicographic.{slice_cmp}
 use Rattle.std.specs.FinMap.Entries.{below_all}
-use Rattle.std.proofs.lemmas.Bool.{true≢false}
+use Rattle.std.proofs.lemmas.Bool.{true≢false, or_parts, not-true}
 use Rattle.std.proofs.lemmas.Bool.Decides.{Decides-eqb}
 use Rattle.std.proofs.lemmas.Cmp.{nat_list_cmp_total, tied_itself}
 use Rattle.std.proofs.lemmas.List.Elements.{All-cons, All-head, All-tail}
 use Rattle.std.proofs.lemmas.Map.Lookups.{exact_bytes}
 use Rattle.std.proofs.lemmas.Slice.Eq.{bytes_eq-Decides}
 use Rattle.gopass_base.specs.Text.{Text}
+use Rattle.gopass_base.specs.Order.{IsRising}
+use Rattle.gopass_base.proofs.ListLemmas.{here, later, first_or}
+use Rattle.gopass_base.proofs.OrderLemmas.{both, less}
 use Rattle.mount_table.specs.Names.{parts}
+use Rattle.mount_table.specs.Paths.{path_in}
 use Rattle.disk_model.specs.Entries.{Entries, files_of, is_rising}
-use Rattle.disk_model.specs.Listing.{LiesIn, IsThere, IsListing, Lists, rest_in, has_git, is_plain, lies_in, paths_in, ListsEntries}
+use Rattle.disk_model.specs.Listing.{LiesIn, IsThere, IsListing, Lists, rest_in, has_git, is_plain, lies_in, paths_in, IsAtMost}
 use Rattle.disk_model.specs.declared.disk.Listed.{Listed}
 use Rattle.disk_model.specs.declared.disk.Listed.TheVariants as listed
 
@@ -38,6 +42,10 @@ rest_nowhere (b ∷ dir) (c ∷ path) other = elim (b == c) as (λ t. b == c ≡
 slash_here : (rest : Text) → rest_in [] (47 ∷ rest) ≡ Some rest
 slash_here rest = ap (λ t. if t then Some rest else None) ((Decides-eqb 47 47).1 refl)
 
+-- what stands in the path of what lies in the directory
+pub rest_at : (dir rest : Text) → rest_in dir (path_in dir rest) ≡ Some rest
+rest_at dir rest = rest_behind dir (47 ∷ rest) ∙ slash_here rest
+
 no_slash : (behind : Text) → ((rest : Text) → behind ≢ 47 ∷ rest) → rest_in [] behind ≡ None
 no_slash [] other = refl
 no_slash (c ∷ behind) other = elim (c == 47) as (λ t. c == 47 ≡ t → (if t then Some behind else None) ≡ None) [
@@ -54,25 +62,6 @@ pub rest_by_slash : (dir path behind : Text) (r : Option (Bor Text)) → path �
     → MatchOption r ((rest : Text) → behind ≢ 47 ∷ rest) (λ x. behind ≡ 47 ∷ x.now) → MatchOption r (rest_in dir path ≡ None) (λ x. rest_in dir path ≡ Some x.now)
 rest_by_slash dir path behind None whole h = ap (rest_in dir) whole ∙ (rest_behind dir behind ∙ no_slash behind h)
 rest_by_slash dir path behind (Some x) whole h = ap (rest_in dir) whole ∙ (rest_behind dir behind ∙ (ap (rest_in []) h ∙ slash_here x.now))
-
--- ---- tests
-
-neither : (a b : Bool) → a || b ≡ false → (a ≡ false) × (b ≡ false)
-neither true b e = absurd (cc)
-neither false b e = (refl, e)
-
-off : (b : Bool) → not b ≡ true → b ≡ false
-off true e = absurd (cc)
-off false e = refl
-
-both : (a b : Bool) → T (a && b) → T a × T b
-both true b p = (tt, p)
-both false b p = absurd p
-
-less : (o : Ordering) → T (is_lt o) → o ≡ Less
-less Less p = refl
-less Equal p = absurd p
-less Greater p = absurd p
 
 exact : (a b : Text) → eq_by_cmp (slice_cmp nat_cmp) a b ≡ true → a ≡ b
 exact a b e = exact_bytes a b (equal (slice_cmp nat_cmp a b) e)
@@ -99,7 +88,7 @@ rest_is (b ∷ dir) (c ∷ path) rest e = elim (b == c) as (λ t. b == c ≡ t �
 other_than_git : (ps : List Text) → list_any (λ part. bytes_eq part (codes ".git")) ps ≡ false → All (λ part. part ≢ codes ".git") ps
 other_than_git [] e = λ k d lt. absurd (omega arith)
 other_than_git (p ∷ ps) e =
-    let tests = neither (bytes_eq p (codes ".git")) (list_any (λ part. bytes_eq part (codes ".git")) ps) e in
+    let tests = or_parts (bytes_eq p (codes ".git")) (list_any (λ part. bytes_eq part (codes ".git")) ps) e in
     All-cons (λ part. part ≢ codes ".git") p ps (λ same. true≢false (sym ((bytes_eq-Decides p (codes ".git")).1 same) ∙ tests.0)) (other_than_git ps tests.1)
 
 no_git_among : (ps : List Text) → All (λ part. part ≢ codes ".git") ps → list_any (λ part. bytes_eq part (codes ".git")) ps ≡ false
@@ -114,23 +103,13 @@ lies_by dir path e = by (rest_in dir path) refl e
   where
     by : (r : Option Text) → rest_in dir path ≡ r → is_plain r ≡ true → LiesIn dir path
     by None is e = absurd (cc)
-    by (Some rest) is e = record { rest = rest; whole = rest_is dir path rest is; no_git = other_than_git (parts rest) (off (has_git rest) e) }
+    by (Some rest) is e = record { rest = rest; whole = rest_is dir path rest is; no_git = other_than_git (parts rest) (not-true (has_git rest) e) }
 
 pub lies_tells : (dir path : Text) → LiesIn dir path → lies_in dir path ≡ true
 lies_tells dir path h =
-    ap is_plain (ap (rest_in dir) h.whole ∙ (rest_behind dir (47 ∷ h.rest) ∙ slash_here h.rest)) ∙ ap not (no_git_among (parts h.rest) h.no_git)
+    ap is_plain (ap (rest_in dir) h.whole ∙ rest_at dir h.rest) ∙ ap not (no_git_among (parts h.rest) h.no_git)
 
 -- ---- the paths of a list of files
-
-here : (x : Text) (xs : List Text) → Contains (x ∷ xs) x
-here x xs = (0, omega arith, refl)
-
-later : (x : Text) (xs : List Text) (q : Text) → Contains xs q → Contains (x ∷ xs) q
-later x xs q (k, lt, is) = (suc k, omega arith, is)
-
-first_or : (x : Text) (xs : List Text) (q : Text) → Contains (x ∷ xs) q → (x ≡ q) ⊎ Contains xs q
-first_or x xs q (zero, lt, is) = inl is
-first_or x xs q (suc k, lt, is) = inr (k, omega arith, is)
 
 there_here : (e : Text × Text) (es : Entries) → IsThere (files_of (e ∷ es)) e.0
 there_here e es = (e.1, ap (λ o. cond (is_eq o) (Some e.1) (files_of es e.0)) (tied_itself nat_list_cmp_total e.0))
@@ -175,13 +154,13 @@ below_listed dir x (e ∷ es) h =
       | false ↦ rest
     ]
 
-rising_listed : (dir : Text) (es : Entries) → T (is_rising es) → IsStrictlySortedBy (slice_cmp nat_cmp) (paths_in dir es)
+rising_listed : (dir : Text) (es : Entries) → T (is_rising es) → IsRising (paths_in dir es)
 unfolding IsStrictlySortedBy
 rising_listed dir [] h = tt
 rising_listed dir (e ∷ es) h =
     let tests = both (below_all (slice_cmp nat_cmp) e.0 es) (is_rising es) h in
     let rest = rising_listed dir es tests.1 in
-    elim (lies_in dir e.0) as (λ t. IsStrictlySortedBy (slice_cmp nat_cmp) (map (λ (e : Text × Text). e.0) (cond t (e ∷ filter (λ (e : Text × Text). lies_in dir e.0) es) (filter (λ (e : Text × Text). lies_in dir e.0) es)))) [
+    elim (lies_in dir e.0) as (λ t. IsRising (map (λ (e : Text × Text). e.0) (cond t (e ∷ filter (λ (e : Text × Text). lies_in dir e.0) es) (filter (λ (e : Text × Text). lies_in dir e.0) es)))) [
       | true ↦ (below_listed dir e.0 es tests.0, rest)
       | false ↦ rest
     ]
@@ -195,6 +174,6 @@ listing_of dir es up = record {
   );
 }
 
-pub lists_of : (es : Entries) (dir : Text) (max : ℕ) (l : Listed) → is_rising es ≡ true → ListsEntries es dir max l → Lists (files_of es) dir max l
+pub lists_of : (es : Entries) (dir : Text) (max : ℕ) (l : Listed) → is_rising es ≡ true → IsAtMost (paths_in dir es) max l → Lists (files_of es) dir max l
 lists_of es dir max (listed.All paths) up (is, few) = subst (IsListing (files_of es) dir) (sym is) (listing_of dir es up)
 lists_of es dir max listed.Many up more = (paths_in dir es, listing_of dir es up, more)

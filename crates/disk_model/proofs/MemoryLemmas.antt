@@ -6,9 +6,9 @@ use Rattle.std.proofs.lemmas.Bool.{false≢true, cases_lt}
 use Rattle.gopass_base.specs.Faults.{counted}
 use Rattle.gopass_base.specs.Calls.{Calls, next_calls}
 use Rattle.disk_model.specs.Files.{Files}
-use Rattle.disk_model.specs.Disk.{View, Elapses, Rests, Steps, IsMade, Syncs, Only, Stay, Stands}
+use Rattle.disk_model.specs.Disk.{View, Elapses, Rests, Steps, IsMade, Syncs, Only, Stay, IsDurable}
 use Rattle.disk_model.specs.Entries.{files_of}
-use Rattle.disk_model.specs.Events.{Event, Write, Rename, Remove, Sync, before, made, entries_made, files_after, entries_after, Does, Next, Images, event_of}
+use Rattle.disk_model.specs.Events.{Event, Write, Rename, Remove, Sync, before, made, entries_made, files_after, entries_after, CrashMakes, Next, Images, event_of}
 use Rattle.disk_model.specs.Memory.{MemoryDisk, events_of, view_of, view_sound, rested, did, IsRecorded}
 use Rattle.disk_model.specs.declared.event.Event.{Event as Held}
 use Rattle.disk_model.proofs.EventLemmas.{after_files, made_rises, files_push, entries_push, images_push, before_same, before_more, past_later, past_push, past_before}
@@ -28,13 +28,13 @@ is_sync (Rename from to) = false
 is_sync (Remove path) = false
 is_sync Sync = true
 
-next_split : (e : Event) (f : Files) (I : Files → Type 0) → is_sync e ≡ false → (n : Files) → Next e f I n → I n ⊎ ((m : Files) × I m × Does e m n)
+next_split : (e : Event) (f : Files) (I : Files → Type 0) → is_sync e ≡ false → (n : Files) → Next e f I n → I n ⊎ ((m : Files) × I m × CrashMakes e m n)
 next_split (Write path bytes) f I is n im = im
 next_split (Rename from to) f I is n im = im
 next_split (Remove path) f I is n im = im
 next_split Sync f I is n im = absurd (false≢true (sym is))
 
-next_join : (e : Event) (f : Files) (I : Files → Type 0) → is_sync e ≡ false → (n : Files) → I n ⊎ ((m : Files) × I m × Does e m n) → Next e f I n
+next_join : (e : Event) (f : Files) (I : Files → Type 0) → is_sync e ≡ false → (n : Files) → I n ⊎ ((m : Files) × I m × CrashMakes e m n) → Next e f I n
 next_join (Write path bytes) f I is n im = im
 next_join (Rename from to) f I is n im = im
 next_join (Remove path) f I is n im = im
@@ -48,7 +48,7 @@ pub shown_files : (held disk : MemoryDisk) → held ≡ disk → IsRecorded held
 shown_files held disk same r = subst (λ (d : MemoryDisk). (view_of d).files ≡ files_of d.entries) same (view_files held r)
 
 -- a disk that did nothing yet holds its files, and a crash leaves nothing else
-pub stands_new : (disk : MemoryDisk) → disk.start ≡ disk.entries → disk.log ≡ [] → Stands (files_of disk.entries) (view_of disk)
+pub stands_new : (disk : MemoryDisk) → disk.start ≡ disk.entries → disk.log ≡ [] → IsDurable (files_of disk.entries) (view_of disk)
 stands_new disk start log =
     let none : events_of disk ≡ [] = ap (before disk.calls.made) log in
     record {
@@ -126,7 +126,7 @@ module _ (disk : MemoryDisk) (r : IsRecorded disk) where
     did_images : (n : Files) → ◌≡◌ {A = Type 0} ((view_of (did e disk)).images n) (Next e (view_of disk).files (view_of disk).images n)
     did_images n = ap (λ (es : List Event). Images start es n) did_events ∙ ap (λ (P : Files → Type 0). P n) (images_push (events_of disk) e start (λ m. m ≡ start))
 
-    pub did_steps : is_sync e ≡ false → Steps (Does e) (view_of disk) (view_of (did e disk))
+    pub did_steps : is_sync e ≡ false → Steps (CrashMakes e) (view_of disk) (view_of (did e disk))
     did_steps step = record {
       time = did_elapses;
       only = λ n im. next_split e (view_of disk).files (view_of disk).images step n (subst (λ (P : Type 0). P) (did_images n) im);
@@ -136,7 +136,7 @@ module _ (disk : MemoryDisk) (r : IsRecorded disk) where
     pub did_files : (view_of (did e disk)).files ≡ made e (view_of disk).files
     did_files = ap (λ (es : List Event). files_after es start) did_events ∙ files_push (events_of disk) e start
 
-    pub did_made : is_sync e ≡ false → IsMade (Does e) (made e (view_of disk).files) (view_of disk) (view_of (did e disk))
+    pub did_made : is_sync e ≡ false → IsMade (CrashMakes e) (made e (view_of disk).files) (view_of disk) (view_of (did e disk))
     did_made step = record {
       files = did_files;
       all = λ m n im does. subst (λ (P : Type 0). P) (sym (did_images n)) (next_join e (view_of disk).files (view_of disk).images step n (inr (m, im, does)));
@@ -183,13 +183,13 @@ steps_rested : (step : Files → Files → Type 0) (old new : View) → Rests ol
 steps_rested step old new s = record { time = s.time; only = λ n im. inl (s.only n im); keeps = s.keeps }
 
 pub steps_by : {T E : Type 0} (r : Result T E) (e : Event) (old new : MemoryDisk) → is_sync e ≡ false → IsRecorded old
-    → OnOk r (old.calls.made < 18446744073709551615) → OnOk r (new ≡ did e old) → OnErr r (new ≡ rested old) → Steps (Does e) (view_of old) (view_of new)
-steps_by (Ok x) e old new step rec lt is un = subst (λ (d : MemoryDisk). Steps (Does e) (view_of old) (view_of d)) (sym is) (did_steps old rec e lt step)
-steps_by (Err x) e old new step rec lt is un = subst (λ (d : MemoryDisk). Steps (Does e) (view_of old) (view_of d)) (sym un) (steps_rested (Does e) (view_of old) (view_of (rested old)) (rests_of old rec))
+    → OnOk r (old.calls.made < 18446744073709551615) → OnOk r (new ≡ did e old) → OnErr r (new ≡ rested old) → Steps (CrashMakes e) (view_of old) (view_of new)
+steps_by (Ok x) e old new step rec lt is un = subst (λ (d : MemoryDisk). Steps (CrashMakes e) (view_of old) (view_of d)) (sym is) (did_steps old rec e lt step)
+steps_by (Err x) e old new step rec lt is un = subst (λ (d : MemoryDisk). Steps (CrashMakes e) (view_of old) (view_of d)) (sym un) (steps_rested (CrashMakes e) (view_of old) (view_of (rested old)) (rests_of old rec))
 
 pub made_by : {T E : Type 0} (r : Result T E) (e : Event) (old new : MemoryDisk) → is_sync e ≡ false → IsRecorded old
-    → OnOk r (old.calls.made < 18446744073709551615) → OnOk r (new ≡ did e old) → OnOk r (Unit {0} → IsMade (Does e) (made e (view_of old).files) (view_of old) (view_of new))
-made_by (Ok x) e old new step rec lt is = λ told. subst (λ (d : MemoryDisk). IsMade (Does e) (made e (view_of old).files) (view_of old) (view_of d)) (sym is) (did_made old rec e lt step)
+    → OnOk r (old.calls.made < 18446744073709551615) → OnOk r (new ≡ did e old) → OnOk r (Unit {0} → IsMade (CrashMakes e) (made e (view_of old).files) (view_of old) (view_of new))
+made_by (Ok x) e old new step rec lt is = λ told. subst (λ (d : MemoryDisk). IsMade (CrashMakes e) (made e (view_of old).files) (view_of old) (view_of d)) (sym is) (did_made old rec e lt step)
 made_by (Err x) e old new step rec lt is = tt
 
 syncs_rested : (old new : View) → Rests old new → Syncs old new

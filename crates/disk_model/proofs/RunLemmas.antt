@@ -2,7 +2,7 @@
 use Rattle.std.proofs.Common.{◌⊎◌, inl, inr, ⊎_elim, ℕ, ◌≤◌, arith, refl, ◌∙◌}
 use Rattle.disk_model.specs.Files.{Files}
 use Rattle.disk_model.specs.Disk.{View, IsSound, Rests, Steps, Syncs}
-use Rattle.disk_model.specs.Runs.{Runs, Reaches, Leaves}
+use Rattle.disk_model.specs.Runs.{Runs, ComesBy, Leaves}
 
 module _ (R : Files → Files → Type 0) (same : (m : Files) → R m m) where
   pub runs_none : (v : View) → Runs R v v
@@ -11,7 +11,7 @@ module _ (R : Files → Files → Type 0) (same : (m : Files) → R m m) where
   pub runs_step : (step : Files → Files → Type 0) (old new : View) → ((m n : Files) → step m n → R m n) → Steps step old new → Runs R old new
   runs_step step old new so s = record { later = s.time.later; now = now; during = λ t n le left. ⊎_elim (λ was. inl was) (λ is. inr (now n is)) (s.time.only t n le left) }
     where
-      now : (n : Files) → new.images n → Reaches R old n
+      now : (n : Files) → new.images n → ComesBy R old n
       now n im = ⊎_elim (λ was. (n, was, same n)) (λ (m, was, s). (m, was, so m n s)) (s.only n im)
 
   pub runs_rest : (old new : View) → Rests old new → Runs R old new
@@ -35,7 +35,7 @@ module _ (R : Files → Files → Type 0) (same : (m : Files) → R m m) where
     during = λ t n le left. ⊎_elim (first.during t n le) (λ r. inr (back n r)) (second.during t n (omega (arith, le, first.later)) left);
   }
     where
-      back : (n : Files) → Reaches R mid n → Reaches R old n
+      back : (n : Files) → ComesBy R mid n → ComesBy R old n
       back n (m, im, r) = let from = first.now m im in (from.0, from.1, joins from.0 m n from.2 r)
 
 module _ (P : Files → Type 0) where

@@ -4,7 +4,7 @@ use Rattle.disk_model.specs.Entries.{Entries, entries_of}
 use Rattle.disk_model.specs.Events.{Event, Write, Rename, Remove, Sync, entries_made}
 use Rattle.disk_model.specs.declared.crash.Pick.{Pick}
 use Rattle.disk_model.specs.declared.crash.Pick.TheVariants as pick
-use Rattle.disk_model.specs.declared.crash.Reading.{Reading as Held}
+use Rattle.disk_model.specs.declared.crash.Replay.{Replay as Held}
 
 -- of a write only the first half of its bytes, rounded down
 abbrev pub torn : Event → Event
@@ -22,29 +22,29 @@ left_of pick.Torn is_odd step left = entries_made (torn step) left
 
 -- how far a log is read: the files, what of them a crash leaves, and whether the next step is the
 -- first, the third, .. since the last sync
-pub record Reading : Type 0 where
+pub record Replay : Type 0 where
   pub files : Entries
   pub left : Entries
   pub is_odd : Bool
 
 -- with one event more: a sync leaves the files
-abbrev pub read_on : Pick → Event → Reading → Reading
-read_on pick Sync r = record { files = r.files; left = r.files; is_odd = true }
-read_on pick e r = record { files = entries_made e r.files; left = left_of pick r.is_odd e r.left; is_odd = not r.is_odd }
+abbrev pub replay_one : Pick → Event → Replay → Replay
+replay_one pick Sync r = record { files = r.files; left = r.files; is_odd = true }
+replay_one pick e r = record { files = entries_made e r.files; left = left_of pick r.is_odd e r.left; is_odd = not r.is_odd }
 
-abbrev pub read_all : Pick → List Event → Reading → Reading
-read_all pick [] r = r
-read_all pick (e ∷ es) r = read_all pick es (read_on pick e r)
+abbrev pub replay_all : Pick → List Event → Replay → Replay
+replay_all pick [] r = r
+replay_all pick (e ∷ es) r = replay_all pick es (replay_one pick e r)
 
 -- nothing is read yet
-abbrev pub begun : Entries → Reading
-begun start = record { files = start; left = start; is_odd = true }
+abbrev pub replay_start : Entries → Replay
+replay_start start = record { files = start; left = start; is_odd = true }
 
 -- what a crash leaves after these events: the files at the last sync, with those of the later steps
 -- that are picked
 abbrev pub picked : Pick → Entries → List Event → Entries
-picked pick start events = (read_all pick events (begun start)).left
+picked pick start events = (replay_all pick events (replay_start start)).left
 
 -- what code holds
-abbrev pub reading_of : Held → Reading
+abbrev pub reading_of : Held → Replay
 reading_of r = record { files = entries_of r.files.items; left = entries_of r.left.items; is_odd = r.is_odd }

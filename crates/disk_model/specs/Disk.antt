@@ -16,7 +16,8 @@ pub record DiskMeaning (D : Type 0) : Type 1 where
   pub view : D → View
   pub faults : D → ℕ
 
--- what holds at every moment: the files are one of the images
+-- what holds at every moment: the files are one of the images, each image is among what a crash since any moment up to
+-- now may have left, and since now that is nothing else
 pub record IsSound (disk : View) : Type 0 where
   pub now : disk.images disk.files
   pub counts_now : (t : ℕ) (m : Files) → t ≤ disk.moment → disk.images m → disk.left_since t m
@@ -61,6 +62,6 @@ abbrev pub Stay : View → View → Type 0
 Stay old new = (m : Files) → old.images m → new.images m
 
 -- the disk holds these files, and a crash leaves nothing else
-pub record Stands (content : Files) (disk : View) : Type 0 where
+pub record IsDurable (content : Files) (disk : View) : Type 0 where
   pub files : disk.files ≡ content
   pub only : Only content disk

@@ -52,17 +52,17 @@ entries_after (e ∷ es) entries = entries_after es (entries_made e entries)
 -- ---- the images
 
 -- what a crash may make of an event that no sync follows
-abbrev pub Does : Event → Files → Files → Type 0
-Does (Write path bytes) = Writes path
-Does (Rename from to) = Moves from to
-Does (Remove path) = Drops path
-Does Sync = λ old new. ⊥
+abbrev pub CrashMakes : Event → Files → Files → Type 0
+CrashMakes (Write path bytes) = Writes path
+CrashMakes (Rename from to) = Moves from to
+CrashMakes (Remove path) = Drops path
+CrashMakes Sync = λ old new. ⊥
 
 -- the images after an event, by the files and the images before it: a sync leaves the files alone,
 -- and after a step each image is still one, with the step and without it
 abbrev pub Next : Event → Files → (Files → Type 0) → Files → Type 0
 Next Sync files I new = new ≡ files
-Next e files I new = I new ⊎ ((old : Files) × I old × Does e old new)
+Next e files I new = I new ⊎ ((old : Files) × I old × CrashMakes e old new)
 
 abbrev pub ImagesAfter : List Event → Files → (Files → Type 0) → Files → Type 0
 ImagesAfter [] files I = I

@@ -1,10 +1,8 @@
 -- What a listing of a directory has.
 use Rattle.std.specs.Prelude.{◌≡◌, ◌≢◌, ◌↔◌, ◌==◌, ℕ, ◌<◌, ◌≤◌, ⊤, Bool, false, not, bytes_eq, List, [], ◌∷◌, length, codes, map, filter, All, Contains, Option, None, Some, if◌then◌else◌}
 use Rattle.std.specs.List.{list_any}
-use Rattle.std.specs.List.Sorted.{IsStrictlySortedBy}
-use Rattle.std.specs.Ordering.{nat_cmp}
-use Rattle.std.specs.Cmp.Lexicographic.{slice_cmp}
 use Rattle.gopass_base.specs.Text.{Text}
+use Rattle.gopass_base.specs.Order.{IsRising}
 use Rattle.mount_table.specs.Names.{parts}
 use Rattle.mount_table.specs.Paths.{path_in}
 use Rattle.disk_model.specs.Files.{Files}
@@ -24,7 +22,7 @@ IsThere files path = (bytes : Text) × (files path ≡ Some bytes)
 
 -- the paths of the files that lie in the directory, in rising order of their bytes
 pub record IsListing (files : Files) (dir : Text) (paths : List Text) : Type 0 where
-  pub rising : IsStrictlySortedBy (slice_cmp nat_cmp) paths
+  pub rising : IsRising paths
   pub each : (path : Text) → Contains paths path ↔ (LiesIn dir path × IsThere files path)
 
 -- what a listing of at most `max` paths gives: all of them, or that there are more
@@ -60,6 +58,7 @@ lies_in dir path = is_plain (rest_in dir path)
 abbrev pub paths_in : Text → Entries → List Text
 paths_in dir entries = map (λ (e : Text × Text). e.0) (filter (λ (e : Text × Text). lies_in dir e.0) entries)
 
-abbrev pub ListsEntries : Entries → Text → ℕ → Listed → Type 0
-ListsEntries entries dir max (listed.All paths) = (paths.items ≡ paths_in dir entries) × (length paths.items ≤ max)
-ListsEntries entries dir max listed.Many = max < length (paths_in dir entries)
+-- all of the paths where there are at most `max`, and else that there are more
+abbrev pub IsAtMost : List Text → ℕ → Listed → Type 0
+IsAtMost paths max (listed.All given) = (given.items ≡ paths) × (length given.items ≤ max)
+IsAtMost paths max listed.Many = max < length paths

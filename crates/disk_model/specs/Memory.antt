@@ -50,7 +50,8 @@ abbrev pub is_past : ℕ → Log → Bool
 is_past k [] = true
 is_past k (e ∷ log) = ltb e.0 k && is_past k log
 
--- its files are those that its log makes of the first ones
+-- its calls are counted in 64 bits, each event of its log is of a call that was made, the files that it began with and
+-- its files are in rising order, and these are what its events make of those
 pub record IsRecorded (disk : MemoryDisk) : Type 0 where
   pub bound : disk.calls.made ≤ 2 ^ 64 - 1
   pub past : IsTrue (is_past disk.calls.made disk.log)

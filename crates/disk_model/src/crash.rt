@@ -4,7 +4,7 @@ ghost use Rattle.std.specs.Prelude.{◌≡◌, ℕ, IsTrue, IfOk, OnOk, if◌the
 ghost use Rattle.std.proofs.Math.Dec.{ltb};
 ghost use Rattle.disk_model.specs.Entries.{entries_of, is_rising};
 ghost use Rattle.disk_model.specs.Events.{event_of, entries_made, before, log_of};
-ghost use Rattle.disk_model.specs.Crashes.{torn, left_of, read_on, reading_of, picked};
+ghost use Rattle.disk_model.specs.Crashes.{torn, left_of, replay_one, reading_of, picked};
 
 use crate::entries::{copy_files, put_file};
 use crate::event::{Event, apply};
@@ -58,17 +58,17 @@ fn apply_picked(
 /// How far a log is read: the files, what of them a crash leaves, and whether the next step is the
 /// first, the third, .. since the last sync.
 #[derive(Drop)]
-struct Reading {
+struct Replay {
     files: Vec<(FilePath, Vec<u8>)>,
     left: Vec<(FilePath, Vec<u8>)>,
     is_odd: bool,
 }
 
 /// Reads one event more.
-fn read_on(reading: &mut Reading, event: &Event, pick: Pick) -> Result<(), NoMemory>
+fn read_on(reading: &mut Replay, event: &Event, pick: Pick) -> Result<(), NoMemory>
     requires files { IsTrue (is_rising (entries_of reading.old.files.items)) }
     requires left { IsTrue (is_rising (entries_of reading.old.left.items)) }
-    ensures { OnOk result (reading_of reading.new ≡ read_on pick (event_of event.now) (reading_of reading.old)) }
+    ensures { OnOk result (reading_of reading.new ≡ replay_one pick (event_of event.now) (reading_of reading.old)) }
 {
     if let Event::Sync = event {
         let alloc = *reading.files.allocator();
@@ -84,7 +84,7 @@ fn read_on(reading: &mut Reading, event: &Event, pick: Pick) -> Result<(), NoMem
 
 /// Reads one event more, where it is of one of the first `moment` calls.
 fn read_before(
-    reading: &mut Reading,
+    reading: &mut Replay,
     moment: u64,
     number: u64,
     event: &Event,
@@ -92,7 +92,7 @@ fn read_before(
 ) -> Result<(), NoMemory>
     requires files { IsTrue (is_rising (entries_of reading.old.files.items)) }
     requires left { IsTrue (is_rising (entries_of reading.old.left.items)) }
-    ensures { OnOk result (reading_of reading.new ≡ (if ltb number moment then read_on pick (event_of event.now) (reading_of reading.old) else reading_of reading.old)) }
+    ensures { OnOk result (reading_of reading.new ≡ (if ltb number moment then replay_one pick (event_of event.now) (reading_of reading.old) else reading_of reading.old)) }
 {
     if number >= moment {
         return Ok(());
@@ -111,7 +111,7 @@ pub(crate) fn left_at(
     requires { IsTrue (is_rising (entries_of start.now)) }
     ensures { IfOk result (λ left. entries_of left.items ≡ picked pick (entries_of start.now) (before moment (log_of log.now))) }
 {
-    let mut reading = Reading {
+    let mut reading = Replay {
         files: copy_files(alloc, start)?,
         left: copy_files(alloc, start)?,
         is_odd: true,

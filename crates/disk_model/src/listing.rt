@@ -3,7 +3,7 @@
 ghost use Rattle.std.specs.Prelude.{◌≡◌, ◌+◌, ◌≤◌, length, IfOk, MatchOption};
 ghost use Rattle.mount_table.specs.Paths.{path_in};
 ghost use Rattle.disk_model.specs.Entries.{entries_of};
-ghost use Rattle.disk_model.specs.Listing.{ListsEntries, has_git, lies_in, rest_in};
+ghost use Rattle.disk_model.specs.Listing.{IsAtMost, has_git, lies_in, paths_in, rest_in};
 
 use crate::disk::Listed;
 use gopass_base::NoMemory;
@@ -44,7 +44,7 @@ pub(crate) fn list(
     dir: &FilePath,
     max: usize,
 ) -> Result<Listed, NoMemory>
-    ensures { IfOk result (ListsEntries (entries_of files.now) dir.now max) }
+    ensures { IfOk result (IsAtMost (paths_in dir.now (entries_of files.now)) max) }
 {
     let mut paths = Vec::new(alloc);
     for (path, _) in files {

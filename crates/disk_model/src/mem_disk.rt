@@ -5,7 +5,7 @@ ghost use Rattle.gopass_base.specs.Text.{Text};
 ghost use Rattle.gopass_base.specs.Faults.{HasCause};
 ghost use Rattle.gopass_base.specs.Calls.{no_calls};
 ghost use Rattle.disk_model.specs.Files.{put, moved, Writes, Moves, Drops};
-ghost use Rattle.disk_model.specs.Disk.{Rests, Steps, IsMade, Syncs, Only, Stay, Stands};
+ghost use Rattle.disk_model.specs.Disk.{Rests, Steps, IsMade, Syncs, Only, Stay, IsDurable};
 ghost use Rattle.disk_model.specs.Answers.{Reads, IsWithin};
 ghost use Rattle.disk_model.specs.Listing.{Lists, IsShort};
 ghost use Rattle.disk_model.specs.Entries.{entries_of, files_of, is_rising};
@@ -79,7 +79,7 @@ fn begin(alloc: Global, files: Vec<(FilePath, Vec<u8>)>) -> Result<MemDisk, NoMe
     ensures entries { IfOk result (λ disk. disk.entries ≡ entries_of files.items) }
     ensures log { IfOk result (λ disk. disk.log ≡ []) }
     ensures calls { IfOk result (λ disk. disk.calls ≡ no_calls []) }
-    ensures stands { IfOk result (λ disk. Stands (files_of disk.entries) (view_of disk)) }
+    ensures stands { IfOk result (λ disk. IsDurable (files_of disk.entries) (view_of disk)) }
 {
     Ok(MemDisk {
         start: copy_files(alloc, &files)?,
@@ -97,7 +97,7 @@ impl MemDisk {
         ensures start { IfOk result (λ disk. disk.start ≡ disk.entries) }
         ensures log { IfOk result (λ disk. disk.log ≡ []) }
         ensures calls { IfOk result (λ disk. disk.calls ≡ no_calls []) }
-        ensures stands { IfOk result (λ disk. Stands (files_of disk.entries) (view_of disk)) }
+        ensures stands { IfOk result (λ disk. IsDurable (files_of disk.entries) (view_of disk)) }
     {
         begin(alloc, in_order(alloc, files)?)
     }
@@ -118,7 +118,7 @@ impl MemDisk {
         &self.files
     }
 
-    /// How many calls were made.
+    /// How many calls of the disk were made, also those that changed nothing or failed.
     pub fn steps(&self) -> u64
         ensures { result ≡ self.now.calls.made }
     {
@@ -134,7 +134,7 @@ impl MemDisk {
         ensures start { IfOk result (λ disk. disk.start ≡ disk.entries) }
         ensures log { IfOk result (λ disk. disk.log ≡ []) }
         ensures calls { IfOk result (λ disk. disk.calls ≡ no_calls []) }
-        ensures stands { IfOk result (λ disk. Stands (files_of disk.entries) (view_of disk)) }
+        ensures stands { IfOk result (λ disk. IsDurable (files_of disk.entries) (view_of disk)) }
     {
         let alloc = *self.files.allocator();
         begin(alloc, left_at(alloc, &self.start, &self.log, moment, pick)?)

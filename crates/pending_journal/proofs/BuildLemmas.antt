@@ -1,43 +1,33 @@
 -- What a step more makes of a change.
 use Rattle.std.proofs.Common.{◌≡◌, ◌↔◌, ◌⊎◌, inl, inr, ℕ, zero, suc, ◌+◌, ◌-◌, ◌<◌, ◌≤◌, Bool, true, false, ◌||◌, List, [], ◌∷◌, ◌++◌, length, take, drop, get_or, codes, IsTrue, All, Contains, bytes_eq, refl, ap, sym, ◌∙◌, subst, arith, append_assoc, length-append, take_at, drop_at}
-use Rattle.std.specs.Prelude.{map}
+use Rattle.std.specs.Prelude.{◌≢◌, AllPairs, map}
 use Rattle.std.specs.List.{list_any}
 use Rattle.std.specs.Str.{is_utf8}
+use Rattle.std.proofs.lemmas.Bool.{false≢true}
 use Rattle.std.proofs.lemmas.List.{map-append, append-nil, get_or_default}
 use Rattle.std.proofs.lemmas.List.Elements.{All-cons, All-head, All-tail, Contains-append_left, Contains-append_right, Contains-append_cases}
+use Rattle.std.proofs.lemmas.List.Kept.{AllPairs-cons}
 use Rattle.std.proofs.lemmas.Slice.Eq.{bytes_eq-Decides}
 use Rattle.gopass_base.specs.Text.{Text}
+use Rattle.gopass_base.proofs.ListLemmas.{here, later, first_or}
 use Rattle.mount_table.specs.Paths.{IsFilePath}
 use Rattle.pending_journal.specs.Service.{is_service}
-use Rattle.pending_journal.specs.Journal.{Plan, IsPlan, Differ, named, put_lines, drop_lines, stage_path}
+use Rattle.pending_journal.specs.Journal.{JournalPlan, IsJournalPlan, paths_of, put_lines, drop_lines, stage_path}
 use Rattle.pending_journal.specs.Built.{IsBuilt, plan_by}
 use Rattle.pending_journal.specs.Change.{contents_of}
 use Rattle.pending_journal.specs.declared.put.Put.{Put}
 
 -- ---- a step for a path
 
-first_or : (x : Text) (xs : List Text) (q : Text) → Contains (x ∷ xs) q → (x ≡ q) ⊎ Contains xs q
-first_or x xs q (zero, lt, is) = inl is
-first_or x xs q (suc k, lt, is) = inr (k, omega arith, is)
-
-later : (x : Text) (xs : List Text) (q : Text) → Contains xs q → Contains (x ∷ xs) q
-later x xs q (k, lt, is) = (suc k, omega arith, is)
-
-here : (x : Text) (xs : List Text) → Contains (x ∷ xs) x
-here x xs = (0, omega arith, refl)
-
 first_found : (b : Bool) (x : Text) (xs : List Text) (p : Text) (more : Bool) → ((b ≡ true) → x ≡ p) × (x ≡ p → b ≡ true) → IsTrue more ↔ Contains xs p → IsTrue (b || more) ↔ Contains (x ∷ xs) p
 first_found true x xs p more same rest = (λ t. subst (Contains (x ∷ xs)) (same.0 refl) (here x xs), λ has. refl)
 first_found false x xs p more same rest = (
   λ t. later x xs p (rest.0 t),
   λ has. elim (first_or x xs p has) [
-    | inl is ↦ absurd (differ (same.1 is))
+    | inl is ↦ absurd (false≢true (same.1 is))
     | inr more ↦ rest.1 more
   ],
 )
-  where
-    differ : false ≡ true → ⊥
-    differ e = cc
 
 found_among : (xs : List Text) (p : Text) → IsTrue (list_any (λ x. bytes_eq x p) xs) ↔ Contains xs p
 found_among [] p = (λ t. absurd (cc), λ (k, lt, is). absurd (omega (arith, lt)))
@@ -55,25 +45,21 @@ module _ (puts held_puts : List Put) (drops held_drops : List Text) (p : Text) (
   one_is = any ∙ ap (list_any (λ (put : Put). bytes_eq put.path p)) same ∙ any_path puts p
 
   -- a put is for the path
-  pub put_held : one ≡ true → IsTrue one ↔ Contains (named (plan_by puts drops)) p
+  pub put_held : one ≡ true → IsTrue one ↔ Contains (paths_of (plan_by puts drops)) p
   put_held yes' = (λ t. Contains-append_left paths drops p ((found_among paths p).0 (sym one_is ∙ yes')), λ has. yes')
 
   -- no put is, and perhaps a drop
-  pub drop_held : (other : Bool) → one ≡ false → held_drops ≡ drops → other ≡ list_any (λ x. bytes_eq x p) held_drops → IsTrue other ↔ Contains (named (plan_by puts drops)) p
+  pub drop_held : (other : Bool) → one ≡ false → held_drops ≡ drops → other ≡ list_any (λ x. bytes_eq x p) held_drops → IsTrue other ↔ Contains (paths_of (plan_by puts drops)) p
   drop_held other none same_drops any_drop = (
     λ t. Contains-append_right paths drops p ((found_among drops p).0 (sym other_is ∙ t)),
     λ has. elim (Contains-append_cases paths drops p has) [
-      | inl first ↦ absurd (differ one none (one_is ∙ (found_among paths p).1 first))
+      | inl first ↦ absurd (false≢true (sym none ∙ (one_is ∙ (found_among paths p).1 first)))
       | inr second ↦ other_is ∙ (found_among drops p).1 second
     ],
   )
     where
       other_is : other ≡ list_any (λ x. bytes_eq x p) drops
       other_is = any_drop ∙ ap (list_any (λ x. bytes_eq x p)) same_drops
-
-      differ : (b : Bool) → b ≡ false → b ≡ true → ⊥
-      differ true e f = cc
-      differ false e f = cc
 
 -- ---- a path more among those that are named
 
@@ -86,18 +72,16 @@ among_insert xs ys p q has = elim (Contains-append_cases xs (p ∷ ys) q has) [
   ]
 ]
 
-differ_tail : (x : Text) (xs : List Text) → Differ (x ∷ xs) → Differ xs
+differ_tail : (x : Text) (xs : List Text) → AllPairs (λ (a b : Text). a ≢ b) (x ∷ xs) → AllPairs (λ (a b : Text). a ≢ b) xs
 differ_tail x xs h i j d lt short = h (suc i) (suc j) d (omega (arith, lt)) (omega (arith, short))
 
-differ_first : (x : Text) (xs : List Text) → Differ (x ∷ xs) → ¬ Contains xs x
+differ_first : (x : Text) (xs : List Text) → AllPairs (λ (a b : Text). a ≢ b) (x ∷ xs) → ¬ Contains xs x
 differ_first x xs h (k, lt, is) = h 0 (suc k) x (omega arith) (omega (arith, lt)) (sym is)
 
-differ_cons : (x : Text) (xs : List Text) → (¬ Contains xs x) → Differ xs → Differ (x ∷ xs)
-differ_cons x xs none h i zero d lt short e = absurd (omega (arith, lt))
-differ_cons x xs none h zero (suc j) d lt short e = let inside : j < length xs = omega (arith, short) in none (j, inside, sym (e ∙ get_or_default xs j d x inside))
-differ_cons x xs none h (suc i) (suc j) d lt short e = h i j d (omega (arith, lt)) (omega (arith, short)) e
+differ_cons : (x : Text) (xs : List Text) → (¬ Contains xs x) → AllPairs (λ (a b : Text). a ≢ b) xs → AllPairs (λ (a b : Text). a ≢ b) (x ∷ xs)
+differ_cons x xs none h = AllPairs-cons (λ (a b : Text). a ≢ b) x xs (λ k d lt e. none (k, lt, sym (e ∙ get_or_default xs k d x lt))) h
 
-pub differ_insert : (xs ys : List Text) (p : Text) → (¬ Contains (xs ++ ys) p) → Differ (xs ++ ys) → Differ (xs ++ p ∷ ys)
+pub differ_insert : (xs ys : List Text) (p : Text) → (¬ Contains (xs ++ ys) p) → AllPairs (λ (a b : Text). a ≢ b) (xs ++ ys) → AllPairs (λ (a b : Text). a ≢ b) (xs ++ p ∷ ys)
 differ_insert [] ys p none h = differ_cons p ys none h
 differ_insert (x ∷ xs) ys p none h =
     differ_cons x (xs ++ p ∷ ys)
@@ -112,27 +96,27 @@ all_insert P [] ys p holds h = All-cons P p ys holds h
 all_insert P (x ∷ xs) ys p holds h = All-cons P x (xs ++ p ∷ ys) (All-head P x (xs ++ ys) h) (all_insert P xs ys p holds (All-tail P x (xs ++ ys) h))
 
 -- the path of a file that may be added
-pub record IsNew (root : Text) (plan : Plan) (path : Text) : Type 0 where
+pub record IsNew (root : Text) (plan : JournalPlan) (path : Text) : Type 0 where
   pub file : IsFilePath path
   pub text : IsTrue (is_utf8 path)
-  pub apart : ¬ Contains (named plan) path
+  pub apart : ¬ Contains (paths_of plan) path
   pub plain : is_service root path ≡ false
-  pub room : length (named plan) < 16400
+  pub room : length (paths_of plan) < 16400
 
 -- a plan that names it too
-pub plan_more : (root : Text) (old new : Plan) (xs ys : List Text) (p : Text) → named old ≡ xs ++ ys → named new ≡ xs ++ p ∷ ys → IsNew root old p → IsPlan root old → IsPlan root new
+pub plan_more : (root : Text) (old new : JournalPlan) (xs ys : List Text) (p : Text) → paths_of old ≡ xs ++ ys → paths_of new ≡ xs ++ p ∷ ys → IsNew root old p → IsJournalPlan root old → IsJournalPlan root new
 plan_more root old new xs ys p was is add plan = record {
   paths = over IsFilePath add.file plan.paths;
   texts = over (λ path. IsTrue (is_utf8 path)) add.text plan.texts;
   plain = over (λ path. is_service root path ≡ false) add.plain plan.plain;
-  differ = subst Differ (sym is) (differ_insert xs ys p (subst (λ (l : List Text). ¬ Contains l p) was add.apart) (subst Differ was plan.differ));
+  differ = subst (AllPairs (λ (a b : Text). a ≢ b)) (sym is) (differ_insert xs ys p (subst (λ (l : List Text). ¬ Contains l p) was add.apart) (subst (AllPairs (λ (a b : Text). a ≢ b)) was plan.differ));
   few = few add.room;
 }
   where
-    over : (P : Text → Type 0) → P p → All P (named old) → All P (named new)
+    over : (P : Text → Type 0) → P p → All P (paths_of old) → All P (paths_of new)
     over P holds all = subst (All P) (sym is) (all_insert P xs ys p holds (subst (All P) was all))
 
-    few : length (named old) < 16400 → length (named new) ≤ 16400
+    few : length (paths_of old) < 16400 → length (paths_of new) ≤ 16400
     few room = omega (arith, room, ap length was, ap length is, length-append xs ys, length-append xs (p ∷ ys))
 
 -- ---- a line more in the text
@@ -251,7 +235,7 @@ module _ (root journal fresh text : Text) (puts_end : ℕ) (puts : List Put) (dr
     text_is = made ∙ text_drop ps drops p text (length text - 4) old.text_is refl ∙ ap (λ (l : List Text). codes "journal 1\n" ++ put_lines ps (drop_lines l (codes "end\n"))) (sym pushed);
     end_is = old.end_is;
     plan =
-        plan_more root (plan_by puts drops) (plan_by puts drops') (named (plan_by puts drops)) [] p (sym (append-nil (named (plan_by puts drops))))
+        plan_more root (plan_by puts drops) (plan_by puts drops') (paths_of (plan_by puts drops)) [] p (sym (append-nil (paths_of (plan_by puts drops))))
         (ap (λ (l : List Text). ps ++ l) pushed ∙ sym (append_assoc ps drops (p ∷ []))) add old.plan;
     staged = old.staged;
   }

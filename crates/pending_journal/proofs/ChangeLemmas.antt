@@ -1,18 +1,19 @@
 -- The steps of a change.
-use Rattle.std.proofs.Common.{◌≡◌, ◌≢◌, ◌⊎◌, inl, inr, ℕ, zero, suc, ◌+◌, ◌<◌, Bool, true, false, ◌||◌, if◌then◌else◌, List, [], ◌∷◌, ◌++◌, length, map, get_or, Option, None, Some, refl, sym, ◌∙◌, ap, subst, bytes_eq, arith, length-append}
-use Rattle.std.proofs.lemmas.Bool.{cases_Bool, cases_order, false≢true}
+use Rattle.std.proofs.Common.{◌≡◌, ◌≢◌, ◌⊎◌, inl, inr, ℕ, zero, suc, ◌+◌, ◌<◌, true, false, ◌||◌, if◌then◌else◌, List, [], ◌∷◌, ◌++◌, length, map, get_or, Option, None, Some, refl, sym, ◌∙◌, ap, subst, bytes_eq, arith}
+use Rattle.std.specs.Option.{option_or}
+use Rattle.std.proofs.lemmas.Bool.{cases_order, false≢true}
 use Rattle.std.proofs.lemmas.List.{get_or_default}
 use Rattle.gopass_base.specs.Text.{Text}
 use Rattle.disk_model.specs.Files.{Files, put, moved}
 use Rattle.disk_model.proofs.FileLemmas.{cases_path, same_path, other_path, put_here, put_apart, moved_none, moved_some, moved_apart, moved_from, moved_none_stays, put_none_stays, cases_file}
 use Rattle.pending_journal.specs.Service.{is_service, journal_path, fresh_path}
-use Rattle.pending_journal.specs.Journal.{Plan, IsPlan, named, stage_path}
-use Rattle.pending_journal.specs.Redo.{Move, moves_from, source_of, is_among, or_else, brought, redone_by, redone}
+use Rattle.pending_journal.specs.Journal.{stage_path}
+use Rattle.pending_journal.specs.Redo.{Move, moves_from, source_of, is_among, brought, redone_by, redone}
 use Rattle.pending_journal.specs.declared.put.Put.{Put}
 use Rattle.pending_journal.specs.declared.change.Change.{Change}
-use Rattle.pending_journal.specs.Built.{IsBuilt, plan_by}
+use Rattle.pending_journal.specs.Built.{IsBuilt}
 use Rattle.pending_journal.specs.Change.{plan_in, contents_of, put_at}
-use Rattle.pending_journal.specs.Carrying.{IsOfPlan, IsStaged, IsFetched, IsDropped}
+use Rattle.pending_journal.specs.Carrying.{IsOfPlan, IsStaged, IsFetched, IsRemoved}
 use Rattle.pending_journal.proofs.ServiceLemmas.{service_journal, stage_service, stage_not_journal, stage_not_fresh, stage_one}
 use Rattle.pending_journal.proofs.RedoLemmas.{apart, redone_same}
 
@@ -212,10 +213,10 @@ module _ (root : Text) (change : Change) (ok : IsBuilt root change.journal chang
           elim (cases_path b q) [
             | inl is ↦ subst (λ (r : Text). brought (moved a b m) (source_of (moves_of puts) r) (moved a b m r) ≡ brought m (source_of (moves_of puts) r) (m r)) is
                 (ap (λ s. brought (moved a b m) s (moved a b m b)) the_put.source
-                ∙ ap (λ f. or_else f (moved a b m b)) (moved_from a b m b_a)
+                ∙ ap (λ f. option_or f (moved a b m b)) (moved_from a b m b_a)
                 ∙ elim (cases_file (m a)) [
-                  | inl none ↦ ap (λ (f : Files). f b) (moved_none a b m none) ∙ ap (λ f. or_else f (m b)) (sym none)
-                  | inr (v, some) ↦ ap (λ (f : Files). f b) (moved_some a b m v some) ∙ put_here (put m a None) b (Some v) ∙ ap (λ f. or_else f (m b)) (sym some)
+                  | inl none ↦ ap (λ (f : Files). f b) (moved_none a b m none) ∙ ap (λ f. option_or f (m b)) (sym none)
+                  | inr (v, some) ↦ ap (λ (f : Files). f b) (moved_some a b m v some) ∙ put_here (put m a None) b (Some v) ∙ ap (λ f. option_or f (m b)) (sym some)
                 ]
                 ∙ ap (λ s. brought m s (m b)) (sym the_put.source))
             | inr isnt ↦
@@ -228,8 +229,8 @@ module _ (root : Text) (change : Change) (ok : IsBuilt root change.journal chang
                       let a_s : a ≢ s = λ e. isnt (ap (λ (p : Put). p.path) (ap (λ k. get_or puts k d) (same_stage i f.i d d lt f.below (e ∙ ap (λ (p : Put). p.staged) (sym (f.at d)))) ∙ f.at d) ∙ f.path) in
                       let b_s : b ≢ s = λ e. apart root s b found.staged the_put.path (sym e) in
                       ap (λ t. brought (moved a b m) t (moved a b m q)) f.source
-                      ∙ ap (λ g. or_else g (moved a b m q)) (moved_apart a b m s a_s b_s)
-                      ∙ ap (λ g. or_else (m s) g) here
+                      ∙ ap (λ g. option_or g (moved a b m q)) (moved_apart a b m s a_s b_s)
+                      ∙ ap (λ g. option_or (m s) g) here
                       ∙ ap (λ t. brought m t (m q)) (sym f.source)
                 ]
           ]
@@ -255,13 +256,10 @@ module _ (root : Text) (change : Change) (ok : IsBuilt root change.journal chang
                 let s = f.put.staged in
                 let p_s : p ≢ s = λ e. apart root s p (found_is q f).staged (plain_drop i d lt) (sym e) in
                 ap (λ t. brought (put m p None) t (put m p None q)) f.source
-                ∙ ap (λ g. or_else g (put m p None q)) (put_apart m p s None p_s)
-                ∙ ap (λ g. or_else (m s) g) here
+                ∙ ap (λ g. option_or g (put m p None q)) (put_apart m p s None p_s)
+                ∙ ap (λ g. option_or (m s) g) here
                 ∙ ap (λ t. brought m t (m q)) (sym f.source)
           ]
-
-  pub staged_none : (files : Files) → IsStaged change 0 files files
-  staged_none files = record { those = λ j d lt. absurd (omega arith); rest = λ q other. refl }
 
   pub staged_more : (i : ℕ) (d : Put) → i < length puts → (before files : Files) → IsStaged change i before files → IsStaged change (i + 1) before (put files (get_or puts i d).staged (Some (get_or puts i d).bytes.items))
   staged_more i d lt before files so = record {
@@ -275,9 +273,6 @@ module _ (root : Text) (change : Change) (ok : IsBuilt root change.journal chang
     where
       here : (e : Put) → put files (get_or puts i d).staged (Some (get_or puts i d).bytes.items) (get_or puts i e).staged ≡ Some (get_or puts i e).bytes.items
       here e = subst (λ (p : Put). put files (get_or puts i d).staged (Some (get_or puts i d).bytes.items) p.staged ≡ Some p.bytes.items) (get_or_default puts i d e lt) (put_here files (get_or puts i d).staged _)
-
-  pub fetched_none : (files : Files) → IsFetched change 0 files files
-  fetched_none files = record { gone = λ j d lt. absurd (omega arith); none = λ q other none. none }
 
   -- no stage is a path
   no_stage : (i j : ℕ) (d e : Put) → i < length puts → j < length puts → (get_or puts j e).path ≢ (get_or puts i d).staged
@@ -296,21 +291,13 @@ module _ (root : Text) (change : Change) (ok : IsBuilt root change.journal chang
       here : (e : Put) → moved (get_or puts i d).staged (get_or puts i d).path files (get_or puts i e).staged ≡ None
       here e = subst (λ (p : Put). moved (get_or puts i d).staged (get_or puts i d).path files p.staged ≡ None) (get_or_default puts i d e lt) (moved_from (get_or puts i d).staged (get_or puts i d).path files (no_stage i i d d lt lt))
 
-abbrev drops_of : Change → List Text
-drops_of change = change.drops.items
-
-pub dropped_none : (change : Change) (files : Files) → IsDropped change 0 files files
-dropped_none change files = record { gone = λ j d lt. absurd (omega arith); none = λ q none. none }
-
-pub dropped_more : (change : Change) (i : ℕ) (d : Text) → i < length change.drops.items → (before files : Files) → IsDropped change i before files → IsDropped change (i + 1) before (put files (get_or change.drops.items i d) None)
-dropped_more change i d lt before files so = record {
+-- a path more is removed
+pub removed_more : (paths : List Text) (i : ℕ) (p : Text) → p ≡ get_or paths i p → i < length paths → (before old new : Files) → IsRemoved paths i before old → new ≡ put old p None → IsRemoved paths (i + 1) before new
+removed_more paths i p is lt before old new so made = subst (IsRemoved paths (i + 1) before) (sym made) (record {
   gone = λ j e below. elim (cases_order j i) [
-    | inl is ↦ subst (λ k. put files (get_or change.drops.items i d) None (get_or change.drops.items k e) ≡ None) (sym is) (here e)
-    | inr (inl less) ↦ put_none_stays files (get_or change.drops.items i d) (get_or change.drops.items j e) (so.gone j e less)
+    | inl same ↦ subst (λ (q : Text). put old p None q ≡ None) (is ∙ get_or_default paths i p e lt ∙ ap (λ k. get_or paths k e) (sym same)) (put_here old p None)
+    | inr (inl less) ↦ put_none_stays old p (get_or paths j e) (so.gone j e less)
     | inr (inr more) ↦ absurd (omega arith)
   ];
-  none = λ q none. put_none_stays files (get_or change.drops.items i d) q (so.none q none);
-}
-  where
-    here : (e : Text) → put files (get_or change.drops.items i d) None (get_or change.drops.items i e) ≡ None
-    here e = subst (λ (p : Text). put files (get_or change.drops.items i d) None p ≡ None) (get_or_default change.drops.items i d e lt) (put_here files (get_or change.drops.items i d) None)
+  none = λ q none. put_none_stays old p q (so.none q none);
+})

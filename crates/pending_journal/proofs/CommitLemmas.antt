@@ -1,24 +1,24 @@
 -- What the parts of a commit come to.
-use Rattle.std.proofs.Common.{◌≡◌, ◌≢◌, ◌⊎◌, inl, inr, ⊎_elim, ℕ, zero, suc, ◌<◌, Bool, true, false, ◌||◌, if◌then◌else◌, List, [], ◌∷◌, length, get_or, Option, None, Some, Result, Ok, Err, OnOk, refl, sym, ◌∙◌, ap, subst, bytes_eq, arith}
-use Rattle.std.proofs.lemmas.Bool.{cases_Bool, false≢true}
+use Rattle.std.proofs.Common.{◌≡◌, ◌≢◌, ◌⊎◌, inl, inr, ℕ, zero, suc, ◌<◌, true, false, ◌||◌, if◌then◌else◌, List, [], ◌∷◌, length, get_or, None, Some, Result, Ok, Err, OnOk, sym, ◌∙◌, ap, subst, arith}
+use Rattle.std.specs.Option.{option_or}
+use Rattle.std.proofs.lemmas.Bool.{cases_Bool}
 use Rattle.std.proofs.Math.Path.{fun_ext}
 use Rattle.gopass_base.specs.Text.{Text}
-use Rattle.disk_model.specs.Files.{Files, put, moved, Writes, Moves, Drops}
-use Rattle.disk_model.specs.Disk.{View, IsSound, Steps, IsMade, Syncs, Only, Stands}
-use Rattle.disk_model.specs.Runs.{Runs, Reaches, Leaves}
-use Rattle.disk_model.proofs.FileLemmas.{cases_path, same_path, other_path, put_here, put_apart, moved_some, cases_file}
-use Rattle.disk_model.proofs.RunLemmas.{runs_step, runs_sync, runs_then, leaves_runs, leaves_then, leaves_step, leaves_sync, leaves_weaken}
-use Rattle.pending_journal.specs.Service.{is_service, without_service, journal_path, fresh_path}
-use Rattle.pending_journal.specs.Journal.{Plan, IsPlan, text_of}
-use Rattle.pending_journal.specs.Redo.{source_of, is_among, or_else, brought, redone_by, redone, StandsFor, IsAtRest, IsBeforeOrAfter}
+use Rattle.disk_model.specs.Files.{Files, put, moved, Writes}
+use Rattle.disk_model.specs.Disk.{View, IsSound, Steps, Syncs, Only, IsDurable}
+use Rattle.disk_model.specs.Runs.{Runs, Leaves}
+use Rattle.disk_model.proofs.FileLemmas.{cases_path, put_here, put_apart, moved_some}
+use Rattle.disk_model.proofs.RunLemmas.{runs_step, runs_then, leaves_runs, leaves_then, leaves_step, leaves_sync, leaves_weaken}
+use Rattle.pending_journal.specs.Service.{is_service, without_service, journal_path}
+use Rattle.pending_journal.specs.Redo.{source_of, is_among, brought, redone_by, redone, RecoversTo, IsAtRest, IsBeforeOrAfter}
 use Rattle.pending_journal.specs.declared.put.Put.{Put}
 use Rattle.pending_journal.specs.declared.change.Change.{Change}
 use Rattle.pending_journal.specs.Built.{IsBuilt}
-use Rattle.pending_journal.specs.Change.{plan_in, contents_of, puts_in, put_at, changed}
-use Rattle.pending_journal.specs.Carrying.{IsUnseen, IsOfPlan, IsEither, IsNoStage, IsStaged, IsFetched, IsDropped, IsReady, IsCarried}
+use Rattle.pending_journal.specs.Change.{plan_in, contents_of, put_at, changed}
+use Rattle.pending_journal.specs.Carrying.{IsUnseen, IsOfPlan, IsEither, IsStaged, IsFetched, IsRemoved, IsReady, IsCarried}
 use Rattle.pending_journal.proofs.ServiceLemmas.{service_journal, service_fresh, fresh_apart}
-use Rattle.pending_journal.proofs.RedoLemmas.{apart, without_own, without_other, without_none, unseen_put, unseen_same, unseen_then, plan_same, plan_then, stands_none, stands_some, redone_gone, redone_kept}
-use Rattle.pending_journal.proofs.ChangeLemmas.{moves_of, Misses, Finds, find, IsPut, is_put, found_is, among_at, place_of, redone_is}
+use Rattle.pending_journal.proofs.RedoLemmas.{apart, without_none, unseen_put, unseen_same, unseen_then, stands_none, stands_some, redone_gone, redone_kept}
+use Rattle.pending_journal.proofs.ChangeLemmas.{moves_of, find, is_put, found_is, place_of, redone_is}
 
 pub on_ok : {T E P : Type 0} (r : Result T E) → P → OnOk r P
 on_ok (Ok x) p = p
@@ -73,7 +73,7 @@ module _ (root : Text) (change : Change) (ok : IsBuilt root change.journal chang
       (runs_step (IsUnseen root) (unseen_same root) (Writes change.fresh) old new (λ m n (v, made). subst (IsUnseen root m) (sym made)
       (unseen_put root m change.fresh (Some v) fresh_service fresh_not_journal)) step)
 
-  pub carried_from : (before mid files : Files) → IsFetched change (length change.puts.items) before mid → IsDropped change (length change.drops.items) mid files → IsCarried change before files
+  pub carried_from : (before mid files : Files) → IsFetched change (length change.puts.items) before mid → IsRemoved change.drops.items (length change.drops.items) mid files → IsCarried change before files
   carried_from before mid files fetched dropped = record {
     stages = λ j d lt. dropped.none (get_or puts j d).staged (fetched.gone j d lt);
     drops = dropped.gone;
@@ -131,7 +131,7 @@ module _ (root : Text) (change : Change) (ok : IsBuilt root change.journal chang
                 let s = f.put.staged in
                 let staged : files s ≡ Some f.put.bytes.items = subst (λ (p : Put). files p.staged ≡ Some p.bytes.items) (f.at f.put) (ready.those f.i f.put f.below) in
                 ap (λ t. brought (with_journal files) t ((with_journal files) q)) f.source
-                ∙ ap (λ g. or_else g ((with_journal files) q)) (away s (λ e. found.not_fresh (sym e ∙ ok.fresh_is)) (λ e. found.not_journal (sym e ∙ ok.journal_is)) ∙ staged)
+                ∙ ap (λ g. option_or g ((with_journal files) q)) (away s (λ e. found.not_fresh (sym e ∙ ok.fresh_is)) (λ e. found.not_journal (sym e ∙ ok.journal_is)) ∙ staged)
                 ∙ sym (f.bytes (before q))
           ]
 
@@ -143,7 +143,7 @@ module _ (root : Text) (change : Change) (ok : IsBuilt root change.journal chang
         subst (λ (r : Text). files r ≡ None) (place.2 q) (carried.drops place.0 q place.1) ∙ sym (redone_gone root (moves_of puts) drops files q (ap (λ b. b || is_among change.drops.items q) off ∙ among))
     | inr other ↦ sym (redone_kept root (moves_of puts) drops files q (ap (λ b. b || is_among change.drops.items q) off ∙ other) ∙ elim (find puts q) [
       | inl f ↦ ap (λ s. brought files s (files q)) f.source
-      | inr f ↦ ap (λ s. brought files s (files q)) f.source ∙ ap (λ g. or_else g (files q)) (subst (λ (p : Put). files p.staged ≡ None) (f.at f.put) (carried.stages f.i f.put f.below))
+      | inr f ↦ ap (λ s. brought files s (files q)) f.source ∙ ap (λ g. option_or g (files q)) (subst (λ (p : Put). files p.staged ≡ None) (f.at f.put) (carried.stages f.i f.put f.below))
     ])
   ] ∙ ap (λ (f : Files). f q) (sym (redone_is root change ok files))
 
@@ -172,7 +172,7 @@ module _ (root : Text) (change : Change) (ok : IsBuilt root change.journal chang
       ]
 
   -- the files after are at rest
-  pub rests_from : (before : Files) (disk : View) → ((q : Text) → is_service root q ≡ true → before q ≡ None) → Stands (changed change before) disk → IsAtRest root disk
+  pub rests_from : (before : Files) (disk : View) → ((q : Text) → is_service root q ≡ true → before q ≡ None) → IsDurable (changed change before) disk → IsAtRest root disk
   rests_from before disk none stands = record {
     only = λ m im. stands.only m im ∙ sym stands.files;
     none = λ q on. ap (λ (f : Files). f q) stands.files ∙ changed_service before none q on;
@@ -198,7 +198,7 @@ module _ (root : Text) (change : Change) (ok : IsBuilt root change.journal chang
       named_journal = subst (λ (j : Text). with_journal v1.files j ≡ Some change.text.items) ok.journal_is (put_here (put v1.files change.fresh None) change.journal (Some change.text.items))
 
       named_good : Good (moved change.fresh change.journal v1.files)
-      named_good = inr (subst (λ (f : Files). StandsFor root f (changed change v0.files)) (sym is_named)
+      named_good = inr (subst (λ (f : Files). RecoversTo root f (changed change v0.files)) (sym is_named)
           (stands_some root (with_journal v1.files) (changed change v0.files) change.text.items (plan_in change) named_journal ok.plan ok.text_is (sym (planned v0.files v1.files rest.none ready))))
 
       pub after_seal : (v2 : View) → IsSound v1 → Leaves Good v0 v1 → Leaves (IsEither v1.files (moved change.fresh change.journal v1.files)) v1 v2 → Leaves Good v0 v2
@@ -208,7 +208,7 @@ module _ (root : Text) (change : Change) (ok : IsBuilt root change.journal chang
           good n (inl is) = subst Good (sym is) (so_far.now v1.files sound.now)
           good n (inr is) = subst Good (sym is) named_good
 
-      module _ (v2 : View) (stands : Stands (moved change.fresh change.journal v1.files) v2) where
+      module _ (v2 : View) (stands : IsDurable (moved change.fresh change.journal v1.files) v2) where
         of_plan : (m n : Files) → v2.images m → IsOfPlan root (plan_in change) m n → redone root (plan_in change) n ≡ changed change v0.files
         of_plan m n im o = o.redone ∙ ap (redone root (plan_in change)) (stands.only m im ∙ is_named) ∙ planned v0.files v1.files rest.none ready
 
@@ -242,5 +242,5 @@ either_step step made old new so only steps = leaves_step (IsEither old.files ma
 pub synced : (P : Files → Type 0) (old mid new : View) → Leaves P old mid → Syncs mid new → Leaves P old new
 synced P old mid new so_far sync = leaves_then P old mid new so_far (leaves_sync P mid new so_far.now sync)
 
-pub stands_from : (content : Files) (mid new : View) → mid.files ≡ content → Syncs mid new → Only mid.files new → Stands content new
+pub stands_from : (content : Files) (mid new : View) → mid.files ≡ content → Syncs mid new → Only mid.files new → IsDurable content new
 stands_from content mid new is sync only = record { files = sync.files ∙ is; only = λ m im. only m im ∙ is }

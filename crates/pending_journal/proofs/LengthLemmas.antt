@@ -1,18 +1,11 @@
 -- No journal has more than 20,000,000 bytes.
-use Rattle.std.proofs.Common.{◌≡◌, ◌≢◌, ℕ, ◌+◌, ◌*◌, ◌<◌, ◌≤◌, List, [], ◌∷◌, ◌++◌, length, codes, All, arith, ap, length-append}
-use Rattle.std.proofs.lemmas.List.Elements.{All-nil, All-cons, All-head, All-tail}
+use Rattle.std.proofs.Common.{◌+◌, ◌*◌, ◌<◌, ◌≤◌, List, [], ◌∷◌, length, codes, All, arith, ap, length-append}
+use Rattle.std.proofs.lemmas.List.Elements.{All-head, All-tail}
 use Rattle.gopass_base.specs.Text.{Text}
 use Rattle.mount_table.specs.Paths.{IsFilePath}
-use Rattle.pending_journal.specs.Journal.{Plan, IsPlan, named, text_of, put_lines, drop_lines}
+use Rattle.pending_journal.specs.Journal.{JournalPlan, IsJournalPlan, journal_text, put_lines, drop_lines}
 use Rattle.pending_journal.specs.Faults.{IsBadText}
-
-pub all_left : (P : Text → Type 0) (xs ys : List Text) → All P (xs ++ ys) → All P xs
-all_left P [] ys all = All-nil P
-all_left P (x ∷ xs) ys all = All-cons P x xs (All-head P x (xs ++ ys) all) (all_left P xs ys (All-tail P x (xs ++ ys) all))
-
-pub all_right : (P : Text → Type 0) (xs ys : List Text) → All P (xs ++ ys) → All P ys
-all_right P [] ys all = all
-all_right P (x ∷ xs) ys all = all_right P xs ys (All-tail P x (xs ++ ys) all)
+use Rattle.pending_journal.proofs.PlanLemmas.{All-left, All-right}
 
 put_length : (paths : List Text) (rest : Text) → All IsFilePath paths → length (put_lines paths rest) ≤ 1006 * length paths + length rest
 put_length [] rest all = omega arith
@@ -28,11 +21,11 @@ drop_length (p ∷ paths) rest all =
     let more = drop_length paths rest (All-tail IsFilePath p paths all) in
     omega (arith, short, more, length-append p (10 ∷ drop_lines paths rest))
 
-text_length : (root : Text) (plan : Plan) → IsPlan root plan → length (text_of plan) ≤ 20000000
+text_length : (root : Text) (plan : JournalPlan) → IsJournalPlan root plan → length (journal_text plan) ≤ 20000000
 text_length root plan ok =
     let drops = drop_lines plan.drops (codes "end\n") in
-    let a = put_length plan.puts drops (all_left IsFilePath plan.puts plan.drops ok.paths) in
-    let b = drop_length plan.drops (codes "end\n") (all_right IsFilePath plan.puts plan.drops ok.paths) in
+    let a = put_length plan.puts drops (All-left IsFilePath plan.puts plan.drops ok.paths) in
+    let b = drop_length plan.drops (codes "end\n") (All-right IsFilePath plan.puts plan.drops ok.paths) in
     let few = ok.few in
     omega (arith, a, b, few, length-append plan.puts plan.drops)
 

@@ -10,4 +10,5 @@ pub mod LengthLemmas
 pub mod StageLemmas
 pub mod BuildLemmas
 pub mod ReadLemmas
+pub mod LineNumberLemmas
 pub mod MendLemmas

@@ -1,26 +1,17 @@
 -- A listing without the vault's own files.
-use Rattle.std.proofs.Common.{◌≡◌, ◌⊎◌, inl, inr, ℕ, zero, suc, Bool, true, false, not, List, [], ◌∷◌, cond, Some, None, if◌then◌else◌, refl, ap, sym, ◌∙◌, subst, arith}
+use Rattle.std.proofs.Common.{◌≡◌, inl, inr, ℕ, Bool, true, false, not, List, [], ◌∷◌, cond, Some, None, if◌then◌else◌, refl, ap, sym, ◌∙◌, subst, arith}
 use Rattle.std.specs.Prelude.{filter, Contains}
 use Rattle.std.specs.Ordering.{nat_cmp}
 use Rattle.std.specs.Cmp.Lexicographic.{slice_cmp}
+use Rattle.std.proofs.lemmas.Bool.{true≢false}
 use Rattle.std.proofs.lemmas.List.Kept.{IsStrictlySortedBy-filter}
 use Rattle.gopass_base.specs.Text.{Text}
+use Rattle.gopass_base.proofs.ListLemmas.{here, later, first_or}
 use Rattle.disk_model.specs.Files.{Files}
-use Rattle.disk_model.specs.Listing.{IsThere, IsListing, Lists}
+use Rattle.disk_model.specs.Listing.{IsThere, IsListing, Lists, IsAtMost}
 use Rattle.disk_model.specs.declared.disk.Listed.{Listed}
 use Rattle.disk_model.specs.declared.disk.Listed.TheVariants as listed
-use Rattle.pending_journal.specs.Listed.{IsAtMost}
 use Rattle.pending_journal.specs.Service.{is_service, without_service, others}
-
-pub first_or : (x : Text) (xs : List Text) (q : Text) → Contains (x ∷ xs) q → (x ≡ q) ⊎ Contains xs q
-first_or x xs q (zero, lt, is) = inl is
-first_or x xs q (suc k, lt, is) = inr (k, omega arith, is)
-
-pub later : (x : Text) (xs : List Text) (q : Text) → Contains xs q → Contains (x ∷ xs) q
-later x xs q (k, lt, is) = (suc k, omega arith, is)
-
-pub here : (x : Text) (xs : List Text) → Contains (x ∷ xs) x
-here x xs = (0, omega arith, refl)
 
 kept_has : (p : Text → Bool) (xs : List Text) (q : Text) → Contains (filter p xs) q → (p q ≡ true) × Contains xs q
 kept_has p [] q (k, lt, is) = absurd (omega (arith, lt))
@@ -40,14 +31,10 @@ has_kept p (x ∷ xs) q on has = elim (p x) as (λ t. p x ≡ t → Contains (co
     | inr more ↦ later x (filter p xs) q (has_kept p xs q on more)
   ]
   | false ↦ λ t. elim (first_or x xs q has) [
-    | inl same ↦ absurd (differs (p x) (ap p same ∙ on) t)
+    | inl same ↦ absurd (true≢false (sym (ap p same ∙ on) ∙ t))
     | inr more ↦ has_kept p xs q on more
   ]
 ] refl
-  where
-    differs : (b : Bool) → b ≡ true → b ≡ false → ⊥
-    differs true e f = cc
-    differs false e f = cc
 
 -- the files but those for whose paths the test is true
 abbrev pub hiding : (Text → Bool) → Files → Files

@@ -1,37 +1,20 @@
 -- No two plans have one text.
-use Rattle.std.proofs.Common.{◌≡◌, ◌≢◌, ℕ, ◌+◌, ◌<◌, List, [], ◌∷◌, ◌++◌, length, get_or, codes, cond, eqb, Bool, true, false, All, refl, ap, sym, ◌∙◌, subst, arith}
+use Rattle.std.proofs.Common.{◌≡◌, ◌≢◌, List, [], ◌∷◌, ◌++◌, get_or, codes, All, refl, ap, sym, ◌∙◌, arith}
 use Rattle.std.specs.Prelude.{Option, None, Some}
-use Rattle.std.specs.List.{onto_first}
 use Rattle.std.proofs.lemmas.List.Elements.{All-nil, All-cons, All-head, All-tail}
-use Rattle.std.proofs.lemmas.Bool.Decides.{Decides-eqb}
 use Rattle.gopass_base.specs.Text.{Text, IsPrintable}
-use Rattle.mount_table.specs.Names.{parts}
 use Rattle.mount_table.specs.Paths.{IsFilePath}
-use Rattle.mount_table.specs.Lines.{Lacks}
-use Rattle.mount_table.proofs.PartLemmas.{parts_fill}
-use Rattle.mount_table.proofs.CleanLemmas.{lacks_control, same_cut}
+use Rattle.gopass_base.specs.Lines.{Lacks}
+use Rattle.mount_table.proofs.CleanLemmas.{whole_text, lacks_control, same_cut}
 use Rattle.disk_model.specs.Files.{Files}
 use Rattle.pending_journal.specs.Service.{journal_path}
-use Rattle.pending_journal.specs.Redo.{StandsBy, StandsFor, redone}
-use Rattle.pending_journal.specs.Journal.{Plan, IsPlan, put_lines, drop_lines, text_of}
+use Rattle.pending_journal.specs.Redo.{RecoversBy, RecoversTo, redone}
+use Rattle.pending_journal.specs.Journal.{JournalPlan, IsJournalPlan, put_lines, drop_lines, journal_text}
 
 -- ---- the path of a file has no line feed
 
-first_byte : (b : ℕ) (cut : Bool) (ps : List Text) → eqb b 47 ≡ cut → 0 < length ps → All (λ part. All IsPrintable part) (cond cut ([] ∷ ps) (onto_first b ps)) → IsPrintable b × All (λ part. All IsPrintable part) ps
-first_byte b cut [] e some h = absurd (omega arith)
-first_byte b true (p ∷ ps) e some h = (subst IsPrintable (sym ((Decides-eqb b 47).0 e)) (omega arith, λ e. absurd (omega (arith, e))), All-tail (λ part. All IsPrintable part) [] (p ∷ ps) h)
-first_byte b false (p ∷ ps) e some h =
-    let head = All-head (λ part. All IsPrintable part) (b ∷ p) ps h in
-    (All-head IsPrintable b p head, All-cons (λ part. All IsPrintable part) p ps (All-tail IsPrintable b p head) (All-tail (λ part. All IsPrintable part) (b ∷ p) ps h))
-
-clean_parts : (text : Text) → All (λ part. All IsPrintable part) (parts text) → All IsPrintable text
-clean_parts [] h = All-nil IsPrintable
-clean_parts (b ∷ text) h =
-    let here = first_byte b (eqb b 47) (parts text) refl (parts_fill text).0 h in
-    All-cons IsPrintable b text here.0 (clean_parts text here.1)
-
 pub clean_file : (text : Text) → IsFilePath text → All IsPrintable text
-clean_file text file = clean_parts text (λ k d lt. (file.each k d lt).printable)
+clean_file text file = whole_text text (λ k d lt. (file.each k d lt).printable)
 
 pub no_feed : (text : Text) → IsFilePath text → Lacks 10 text
 no_feed text file = lacks_control 10 text (omega arith) (clean_file text file)
@@ -84,17 +67,17 @@ one_lines (p ∷ ps) (q ∷ qs) xs ys h k e =
     let rest = one_lines ps qs xs ys (All-tail IsFilePath p (ps ++ xs) h) (All-tail IsFilePath q (qs ++ ys) k) first.1 in
     ((λ i. first.0 i ∷ rest.0 i), rest.1)
 
-pub one_plan : (root : Text) (a b : Plan) → IsPlan root a → IsPlan root b → text_of a ≡ text_of b → a ≡ b
+pub one_plan : (root : Text) (a b : JournalPlan) → IsJournalPlan root a → IsJournalPlan root b → journal_text a ≡ journal_text b → a ≡ b
 one_plan root a b good good' e =
     let here : lines_of a.puts a.drops ≡ lines_of b.puts b.drops = cc in
     let both = one_lines a.puts b.puts a.drops b.drops good.paths good'.paths here in
     λ i. record { puts = both.0 i; drops = both.1 i }
 
-one_by : (root : Text) (journal : Option Text) (files first second : Files) → StandsBy root journal files first → StandsBy root journal files second → first ≡ second
+one_by : (root : Text) (journal : Option Text) (files first second : Files) → RecoversBy root journal files first → RecoversBy root journal files second → first ≡ second
 one_by root None files first second h k = h ∙ sym k
 one_by root (Some text) files first second (a, good, is, after) (b, good', is', after') =
-    after ∙ (ap (λ (plan : Plan). redone root plan files) (one_plan root a b good good' (sym is ∙ is')) ∙ sym after')
+    after ∙ (ap (λ (plan : JournalPlan). redone root plan files) (one_plan root a b good good' (sym is ∙ is')) ∙ sym after')
 
 -- what files stand for is one
-pub one_meaning : (root : Text) (files first second : Files) → StandsFor root files first → StandsFor root files second → first ≡ second
+pub one_meaning : (root : Text) (files first second : Files) → RecoversTo root files first → RecoversTo root files second → first ≡ second
 one_meaning root files first second h k = one_by root (files (journal_path root)) files first second h k

@@ -1,26 +1,25 @@
 -- What the parts of an opening come to.
-use Rattle.std.proofs.Common.{◌≡◌, ◌≢◌, ◌⊎◌, inl, inr, ⊎_elim, ℕ, ◌+◌, ◌<◌, Bool, true, false, ◌||◌, List, [], ◌∷◌, length, get_or, Option, None, Some, Result, Ok, Err, OnOk, refl, sym, ◌∙◌, ap, subst, bytes_eq, arith}
+use Rattle.std.proofs.Common.{◌≡◌, inl, inr, ⊎_elim, ℕ, ◌<◌, true, false, ◌||◌, List, [], ◌∷◌, length, get_or, None, Some, refl, sym, ◌∙◌, ap, subst, bytes_eq, arith}
 use Rattle.std.specs.Prelude.{Contains}
-use Rattle.std.proofs.lemmas.Bool.{cases_Bool, cases_order, false≢true}
-use Rattle.std.proofs.lemmas.List.{get_or_default}
+use Rattle.std.proofs.lemmas.Bool.{cases_Bool, false≢true}
 use Rattle.std.proofs.Math.Path.{fun_ext}
 use Rattle.gopass_base.specs.Text.{Text}
 use Rattle.disk_model.specs.Files.{Files, put, Drops}
-use Rattle.disk_model.specs.Disk.{View, IsSound, Rests, Steps, Syncs, Only, Stands}
-use Rattle.disk_model.specs.Runs.{Runs, Reaches, Leaves}
-use Rattle.disk_model.specs.Listing.{LiesIn, IsThere, IsListing}
-use Rattle.disk_model.proofs.FileLemmas.{cases_path, cases_file, same_path, other_path, put_here, put_apart, put_none_stays}
-use Rattle.disk_model.proofs.RunLemmas.{runs_step, runs_rest, runs_sync, runs_then, runs_weaken, leaves_runs, leaves_then, leaves_weaken}
+use Rattle.disk_model.specs.Disk.{View, IsSound, Rests, Steps, Syncs, Only, IsDurable}
+use Rattle.disk_model.specs.Runs.{Runs, Leaves}
+use Rattle.disk_model.specs.Listing.{LiesIn, IsListing}
+use Rattle.disk_model.proofs.FileLemmas.{cases_path, cases_file, same_path, other_path, put_here, put_apart}
+use Rattle.disk_model.proofs.RunLemmas.{runs_step, runs_then, runs_weaken, leaves_runs, leaves_then, leaves_weaken}
 use Rattle.pending_journal.specs.Service.{is_service, without_service, journal_path, fresh_path, stage_dir}
-use Rattle.pending_journal.specs.Redo.{is_among, redone, StandsFor, IsAlike, IsAtRest}
+use Rattle.pending_journal.specs.Redo.{is_among, redone, RecoversTo, IsAlike, IsAtRest}
 use Rattle.pending_journal.specs.declared.change.Change.{Change}
 use Rattle.pending_journal.specs.Built.{IsBuilt}
 use Rattle.pending_journal.specs.Change.{plan_in}
-use Rattle.pending_journal.specs.Carrying.{IsUnseen, IsOfPlan, IsEither, IsCarried}
-use Rattle.pending_journal.specs.Recovery.{IsOldOrAlike, IsSameOrAlike, IsUntouched, IsMended, IsCleared, IsSameBut, IsRemoved}
-use Rattle.pending_journal.proofs.ListLemmas.{first_or, later, here}
+use Rattle.pending_journal.specs.Carrying.{IsUnseen, IsOfPlan, IsEither, IsRemoved, IsCarried}
+use Rattle.pending_journal.specs.Recovery.{IsOldOrAlike, IsSameOrAlike, IsUntouched, IsMended, IsCleared, IsSameBut}
+use Rattle.gopass_base.proofs.ListLemmas.{here, later, first_or}
 use Rattle.pending_journal.proofs.ServiceLemmas.{service_journal, service_fresh, fresh_apart, below_service, below_not_journal, service_only}
-use Rattle.pending_journal.proofs.RedoLemmas.{apart, without_own, without_other, without_none, without-put, unseen_put, unseen_same, unseen_then, stands_none, stands_some, alike_some, alike_done, alike_by, redone_gone, IsLike}
+use Rattle.pending_journal.proofs.RedoLemmas.{without_own, without_other, without_none, without-put, unseen_put, unseen_same, unseen_then, stands_none, stands_some, alike_some, alike_done, alike_by, redone_gone, IsLike}
 use Rattle.pending_journal.proofs.ChangeLemmas.{among_at, place_of}
 use Rattle.pending_journal.proofs.CommitLemmas.{settled}
 
@@ -36,16 +35,6 @@ module _ (paths : List Text) (i : ℕ) (p : Text) (is : p ≡ get_or paths i p) 
   remove_runs start old new run step =
       runs_then (IsSameBut paths) (but_same paths) (but_then paths) start old new run
       (runs_step (IsSameBut paths) (but_same paths) (Drops p) old new (λ m n made q other. ap (λ (f : Files). f q) made ∙ put_apart m p q None (λ e. false≢true (sym other ∙ ap (is_among paths) (sym e ∙ is) ∙ among_at paths i p lt))) step)
-
-  pub remove_files : (before old new : Files) → IsRemoved paths i before old → new ≡ put old p None → IsRemoved paths (i + 1) before new
-  remove_files before old new so made = subst (IsRemoved paths (i + 1) before) (sym made) (record {
-    gone = λ j e below. elim (cases_order j i) [
-      | inl same ↦ subst (λ (q : Text). put old p None q ≡ None) (is ∙ get_or_default paths i p e lt ∙ ap (λ k. get_or paths k e) (sym same)) (put_here old p None)
-      | inr (inl less) ↦ put_none_stays old p (get_or paths j e) (so.gone j e less)
-      | inr (inr more) ↦ absurd (omega arith)
-    ];
-    none = λ q none. put_none_stays old p q (so.none q none);
-  })
 
 among_contains : (paths : List Text) (q : Text) → is_among paths q ≡ true → Contains paths q
 among_contains [] q is = absurd (false≢true is)
@@ -110,7 +99,7 @@ module _ (root : Text) (change : Change) (ok : IsBuilt root change.journal chang
   at_start : v0.files (journal_path root) ≡ Some change.text.items
   at_start = subst (λ (j : Text). v0.files j ≡ Some change.text.items) ok.journal_is text
 
-  start_stands : StandsFor root v0.files (redone root (plan_in change) v0.files)
+  start_stands : RecoversTo root v0.files (redone root (plan_in change) v0.files)
   start_stands = stands_some root v0.files (redone root (plan_in change) v0.files) change.text.items (plan_in change) at_start ok.plan ok.text_is refl
 
   like_plan : (m n : Files) → v0.images m → IsOfPlan root (plan_in change) m n → IsLike root v0.files n
@@ -151,7 +140,7 @@ module _ (root : Text) (change : Change) (ok : IsBuilt root change.journal chang
         good n (inl is) = subst (IsAlike root v0.files) (sym is) (so_far.now v1.files sound.now)
         good n (inr is) = subst (IsAlike root v0.files) (sym is) gone_alike
 
-    pub finished_mended : (v2 : View) → Stands (put v1.files change.journal None) v2 → IsMended root v0.files v2
+    pub finished_mended : (v2 : View) → IsDurable (put v1.files change.journal None) v2 → IsMended root v0.files v2
     finished_mended v2 stands = record {
       only = λ m im. stands.only m im ∙ sym stands.files;
       journal = ap (λ (f : Files). f (journal_path root)) stands.files ∙ gone_journal;
@@ -213,8 +202,8 @@ module _ (root : Text) where
           old_or n (inr alike) = inr (subst (λ (f : Files). IsAlike root f n) at_v2 alike)
 
       module _ (v4 : View) (redone : IsMended root v2.files v3) (run : Runs (IsUnseen root) v3 v4) where
-        stands_v0 : StandsFor root v0.files (without_service root v3.files)
-        stands_v0 = subst (λ (f : Files). StandsFor root f (without_service root v3.files)) at_v2 redone.stands
+        stands_v0 : RecoversTo root v0.files (without_service root v3.files)
+        stands_v0 = subst (λ (f : Files). RecoversTo root f (without_service root v3.files)) at_v2 redone.stands
 
         unseen_journal : (m n : Files) → v3.images m → IsUnseen root m n → n (journal_path root) ≡ None
         unseen_journal m n im u = u.journal ∙ ap (λ (f : Files). f (journal_path root)) (redone.only m im) ∙ redone.journal
@@ -239,10 +228,10 @@ module _ (root : Text) where
         pub opened_rest : IsSound v4 → Only v4.files v4 → IsCleared root v4.files → IsAtRest root v4
         opened_rest sound only cleared = record { only = only; none = none_left sound cleared }
 
-        pub opened_stands : IsSound v4 → IsCleared root v4.files → StandsFor root v0.files v4.files
+        pub opened_stands : IsSound v4 → IsCleared root v4.files → RecoversTo root v0.files v4.files
         opened_stands sound cleared =
             let from = run.now v4.files sound.now in
-            subst (StandsFor root v0.files) (sym (unseen_plain from.0 v4.files from.1 from.2) ∙ without_none root v4.files (none_left sound cleared)) stands_v0
+            subst (RecoversTo root v0.files) (sym (unseen_plain from.0 v4.files from.1 from.2) ∙ without_none root v4.files (none_left sound cleared)) stands_v0
 
   -- ---- a journal that was read
   pub redo_alike : (v0 v1 v2 : View) → Rests v0 v1 → Only v0.files v0 → Leaves (IsAlike root v1.files) v1 v2 → Leaves (IsSameOrAlike root v0.files) v0 v2
@@ -253,5 +242,5 @@ module _ (root : Text) where
   redo_mended v0 v1 v2 rests mended = record {
     only = mended.only;
     journal = mended.journal;
-    stands = subst (λ (f : Files). StandsFor root f (without_service root v2.files)) rests.files mended.stands;
+    stands = subst (λ (f : Files). RecoversTo root f (without_service root v2.files)) rests.files mended.stands;
   }

@@ -1,20 +1,19 @@
 -- Which steps leave what a set of files stands for.
-use Rattle.std.proofs.Common.{◌≡◌, ◌≢◌, ◌⊎◌, ◌↔◌, inl, inr, ℕ, ◌<◌, Bool, true, false, ◌||◌, if◌then◌else◌, List, [], ◌∷◌, length, get_or, Option, None, Some, refl, sym, ◌∙◌, ap, subst, bytes_eq}
-use Rattle.std.proofs.lemmas.Bool.{cases_Bool, false≢true}
+use Rattle.std.proofs.Common.{◌≡◌, ◌≢◌, ◌↔◌, inl, inr, true, false, ◌||◌, if◌then◌else◌, List, Option, None, Some, refl, sym, ◌∙◌, ap, subst}
+use Rattle.std.proofs.lemmas.Bool.{cases_Bool, false≢true, or_parts}
 use Rattle.std.proofs.Math.Path.{fun_ext}
 use Rattle.gopass_base.specs.Text.{Text}
-use Rattle.disk_model.specs.Files.{Files, put, moved}
+use Rattle.disk_model.specs.Files.{Files, put}
 use Rattle.disk_model.proofs.FileLemmas.{put_apart}
 use Rattle.pending_journal.specs.Service.{is_service, without_service, journal_path}
-use Rattle.pending_journal.specs.Journal.{Plan, IsPlan, text_of}
-use Rattle.pending_journal.specs.Redo.{Move, moves_from, source_of, is_among, or_else, brought, redone_by, redone, StandsBy, StandsFor, IsAlike}
+use Rattle.pending_journal.specs.Journal.{JournalPlan, IsJournalPlan, journal_text}
+use Rattle.pending_journal.specs.Redo.{Move, source_of, is_among, brought, redone_by, redone, RecoversBy, RecoversTo, IsAlike}
 use Rattle.pending_journal.specs.Carrying.{IsUnseen, IsOfPlan}
 use Rattle.pending_journal.proofs.PlanLemmas.{one_plan}
-use Rattle.pending_journal.proofs.ServiceLemmas.{service_journal}
 
 -- each of them stands for what the other stands for
 abbrev pub IsLike : Text → Files → Files → Type 0
-IsLike root files others = (after : Files) → StandsFor root others after ↔ StandsFor root files after
+IsLike root files others = (after : Files) → RecoversTo root others after ↔ RecoversTo root files after
 
 module _ (root : Text) where
   -- one of the vault's own differs from every other path
@@ -51,23 +50,23 @@ module _ (root : Text) where
   unseen_then a b c s t = record { journal = t.journal ∙ s.journal; plain = t.plain ∙ s.plain }
 
   -- ---- what files stand for
-  pub stands_none : (m after : Files) → m (journal_path root) ≡ None → after ≡ without_service root m → StandsFor root m after
-  stands_none m after none is = subst (λ f. StandsBy root f m after) (sym none) is
+  pub stands_none : (m after : Files) → m (journal_path root) ≡ None → after ≡ without_service root m → RecoversTo root m after
+  stands_none m after none is = subst (λ f. RecoversBy root f m after) (sym none) is
 
-  pub stands_some : (m after : Files) (text : Text) (plan : Plan) → m (journal_path root) ≡ Some text → IsPlan root plan → text ≡ text_of plan → after ≡ redone root plan m → StandsFor root m after
-  stands_some m after text plan some ok is_text is = subst (λ f. StandsBy root f m after) (sym some) (plan, ok, is_text, is)
+  pub stands_some : (m after : Files) (text : Text) (plan : JournalPlan) → m (journal_path root) ≡ Some text → IsJournalPlan root plan → text ≡ journal_text plan → after ≡ redone root plan m → RecoversTo root m after
+  stands_some m after text plan some ok is_text is = subst (λ f. RecoversBy root f m after) (sym some) (plan, ok, is_text, is)
 
-  pub of_none : (m after : Files) → m (journal_path root) ≡ None → StandsFor root m after → after ≡ without_service root m
-  of_none m after none stands = subst (λ f. StandsBy root f m after) none stands
+  pub of_none : (m after : Files) → m (journal_path root) ≡ None → RecoversTo root m after → after ≡ without_service root m
+  of_none m after none stands = subst (λ f. RecoversBy root f m after) none stands
 
-  pub of_some : (m after : Files) (text : Text) (plan : Plan) → m (journal_path root) ≡ Some text → IsPlan root plan → text ≡ text_of plan → StandsFor root m after → after ≡ redone root plan m
+  pub of_some : (m after : Files) (text : Text) (plan : JournalPlan) → m (journal_path root) ≡ Some text → IsJournalPlan root plan → text ≡ journal_text plan → RecoversTo root m after → after ≡ redone root plan m
   of_some m after text plan some ok is_text stands =
-      let by : StandsBy root (Some text) m after = subst (λ f. StandsBy root f m after) some stands in
+      let by : RecoversBy root (Some text) m after = subst (λ f. RecoversBy root f m after) some stands in
       let same : by.0 ≡ plan = one_plan root by.0 plan by.1 ok (sym by.2 ∙ is_text) in
-      by.3 ∙ ap (λ (p : Plan). redone root p m) same
+      by.3 ∙ ap (λ (p : JournalPlan). redone root p m) same
 
   pub alike_same : (m n : Files) → n ≡ m → IsLike root m n
-  alike_same m n is after = (λ stands. subst (λ (f : Files). StandsFor root f after) is stands, λ stands. subst (λ (f : Files). StandsFor root f after) (sym is) stands)
+  alike_same m n is after = (λ stands. subst (λ (f : Files). RecoversTo root f after) is stands, λ stands. subst (λ (f : Files). RecoversTo root f after) (sym is) stands)
 
   pub alike_then : (a b c : Files) → IsLike root a b → IsLike root b c → IsLike root a c
   alike_then a b c first second after = (λ stands. (first after).0 ((second after).0 stands), λ stands. (second after).1 ((first after).1 stands))
@@ -80,21 +79,21 @@ module _ (root : Text) where
   )
 
   -- with the journal of one plan
-  pub alike_some : (m n : Files) (text : Text) (plan : Plan) → IsPlan root plan → text ≡ text_of plan → m (journal_path root) ≡ Some text → n (journal_path root) ≡ Some text → redone root plan n ≡ redone root plan m → IsLike root m n
+  pub alike_some : (m n : Files) (text : Text) (plan : JournalPlan) → IsJournalPlan root plan → text ≡ journal_text plan → m (journal_path root) ≡ Some text → n (journal_path root) ≡ Some text → redone root plan n ≡ redone root plan m → IsLike root m n
   alike_some m n text plan ok is some some' same after = (
     λ stands. stands_some m after text plan some ok is (of_some n after text plan some' ok is stands ∙ same),
     λ stands. stands_some n after text plan some' ok is (of_some m after text plan some ok is stands ∙ sym same),
   )
 
   -- a journal is there, and in the other files it was carried out
-  pub alike_done : (m n : Files) (text : Text) (plan : Plan) → IsPlan root plan → text ≡ text_of plan → m (journal_path root) ≡ Some text → n (journal_path root) ≡ None → without_service root n ≡ redone root plan m → IsLike root m n
+  pub alike_done : (m n : Files) (text : Text) (plan : JournalPlan) → IsJournalPlan root plan → text ≡ journal_text plan → m (journal_path root) ≡ Some text → n (journal_path root) ≡ None → without_service root n ≡ redone root plan m → IsLike root m n
   alike_done m n text plan ok is some none same after = (
     λ stands. stands_some m after text plan some ok is (of_none n after none stands ∙ same),
     λ stands. stands_none n after none (of_some m after text plan some ok is stands ∙ sym same),
   )
 
   -- files that stand for something, and others that are like them
-  pub alike_by : (m n after : Files) → StandsFor root m after → IsLike root m n → IsAlike root m n
+  pub alike_by : (m n after : Files) → RecoversTo root m after → IsLike root m n → IsAlike root m n
   alike_by m n after stands like = (after, stands, (like after).1 stands)
 
   -- ---- what a plan makes of files
@@ -111,19 +110,11 @@ module _ (root : Text) where
     pub redone_same : (m n : Files) → ((q : Text) → is_service root q ≡ false → is_among drops q ≡ false → brought n (source_of moves q) (n q) ≡ brought m (source_of moves q) (m q)) → redone_by root moves drops n ≡ redone_by root moves drops m
     redone_same m n so = fun_ext λ q. elim (cases_Bool (is_service root q || is_among drops q)) [
       | inl on ↦ redone_gone n q on ∙ sym (redone_gone m q on)
-      | inr off ↦ redone_kept n q off ∙ so q (left_no _ _ off) (right_no _ _ off) ∙ sym (redone_kept m q off)
+      | inr off ↦ redone_kept n q off ∙ so q (or_parts _ _ off).0 (or_parts _ _ off).1 ∙ sym (redone_kept m q off)
     ]
-      where
-        left_no : (a b : Bool) → (a || b) ≡ false → a ≡ false
-        left_no true b e = e
-        left_no false b e = refl
 
-        right_no : (a b : Bool) → (a || b) ≡ false → b ≡ false
-        right_no true b e = absurd (false≢true (sym e))
-        right_no false b e = e
-
-  pub plan_same : (plan : Plan) (m : Files) → IsOfPlan root plan m m
+  pub plan_same : (plan : JournalPlan) (m : Files) → IsOfPlan root plan m m
   plan_same plan m = record { journal = refl; redone = refl }
 
-  pub plan_then : (plan : Plan) (a b c : Files) → IsOfPlan root plan a b → IsOfPlan root plan b c → IsOfPlan root plan a c
+  pub plan_then : (plan : JournalPlan) (a b c : Files) → IsOfPlan root plan a b → IsOfPlan root plan b c → IsOfPlan root plan a c
   plan_then plan a b c s t = record { journal = t.journal ∙ s.journal; redone = t.redone ∙ s.redone }

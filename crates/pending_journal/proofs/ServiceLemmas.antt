@@ -1,5 +1,5 @@
 -- The vault's own files.
-use Rattle.std.proofs.Common.{◌≡◌, ◌≢◌, ℕ, ◌+◌, ◌<◌, ◌/◌, ◌%◌, Bool, true, false, ◌||◌, List, [], ◌∷◌, ◌++◌, length, get_or, codes, bytes_eq, cond, eqb, Option, None, Some, All, refl, sym, ◌∙◌, ap, subst, arith, length-append, append_assoc}
+use Rattle.std.proofs.Common.{◌≡◌, ◌≢◌, ℕ, ◌<◌, ◌/◌, Bool, true, false, ◌||◌, [], ◌∷◌, length, get_or, codes, bytes_eq, cond, Option, None, Some, All, refl, sym, ◌∙◌, ap, subst, arith, length-append, append_assoc}
 use Rattle.std.specs.List.{onto_first}
 use Rattle.std.proofs.lemmas.Bool.{false≢true, ne_eqb}
 use Rattle.std.proofs.lemmas.List.Elements.{All-nil, All-cons}
@@ -7,8 +7,8 @@ use Rattle.gopass_base.specs.Text.{Text}
 use Rattle.mount_table.specs.Names.{parts}
 use Rattle.mount_table.specs.Paths.{path_in}
 use Rattle.disk_model.specs.Listing.{LiesIn, lies_in, rest_in}
-use Rattle.disk_model.proofs.FileLemmas.{cases_path, same_path, other_path}
-use Rattle.disk_model.proofs.ListingLemmas.{rest_behind, rest_is, lies_by, lies_tells}
+use Rattle.disk_model.proofs.FileLemmas.{other_path}
+use Rattle.disk_model.proofs.ListingLemmas.{rest_at, rest_is, lies_by, lies_tells}
 use Rattle.pending_journal.specs.Service.{is_service, is_service_rest, journal_path, fresh_path, stage_dir}
 use Rattle.pending_journal.specs.Journal.{digit, six_digits, stage_path}
 
@@ -20,9 +20,6 @@ third : (a b c : Bool) → c ≡ true → (a || (b || c)) ≡ true
 third true b c is = refl
 third false true c is = refl
 third false false c is = is
-
-pub rest_at : (root rest : Text) → rest_in root (path_in root rest) ≡ Some rest
-rest_at root rest = rest_behind root (47 ∷ rest)
 
 service_at : (root rest : Text) → is_service root (path_in root rest) ≡ is_service_rest (Some rest)
 service_at root rest = ap is_service_rest (rest_at root rest)

@@ -1,26 +1,12 @@
 -- The paths of the vault's own files are paths of files.
-use Rattle.std.proofs.Common.{◌≡◌, ◌≢◌, ℕ, ◌+◌, ◌≤◌, ◌/◌, List, [], ◌∷◌, ◌++◌, length, codes, cond, eqb, true, All, refl, ap, sym, ◌∙◌, subst, arith, append_assoc}
-use Rattle.std.specs.List.{onto_first, list_all}
-use Rattle.std.proofs.lemmas.Bool.{ne_eqb}
+use Rattle.std.proofs.Common.{◌≡◌, ℕ, ◌/◌, List, [], ◌∷◌, ◌++◌, length, codes, All, refl, ap, sym, ◌∙◌, subst, arith, append_assoc}
 use Rattle.std.proofs.lemmas.List.Elements.{All-nil, All-cons}
 use Rattle.gopass_base.specs.Text.{Text, IsPrintable}
 use Rattle.mount_table.specs.Names.{parts}
 use Rattle.mount_table.specs.Paths.{IsPathPart, IsFilePath, IsDirPath, path_in}
-use Rattle.mount_table.proofs.JoinLemmas.{path_in_good, parts_join, printable_text, plain_byte}
+use Rattle.mount_table.proofs.JoinLemmas.{path_in_good, parts_join, literal_part, one_part}
 use Rattle.pending_journal.specs.Journal.{digit, six_digits, stage_path}
-
-literal_part : (text : Text) → 3 ≤ length text → length text ≤ 255 → list_all plain_byte text ≡ true → IsPathPart text
-literal_part text long short clean = record {
-  some = omega arith;
-  short = short;
-  no_dot = λ e. absurd (omega (arith, ap length e));
-  no_dots = λ e. absurd (omega (arith, ap length e));
-  printable = printable_text text clean;
-}
-
-one_part : (dir rest : Text) → IsDirPath dir → length rest ≤ 255 → parts rest ≡ rest ∷ [] → IsPathPart rest → IsFilePath (path_in dir rest)
-one_part dir rest good short one part =
-    path_in_good dir rest good (omega arith) (omega (arith, ap length one)) (subst (All IsPathPart) (sym one) (All-cons IsPathPart rest [] part (All-nil IsPathPart)))
+use Rattle.pending_journal.proofs.ServiceLemmas.{six_parts}
 
 pub fresh_good : (root : Text) → IsDirPath root → IsFilePath (path_in root (codes ".gopass-journal.new"))
 fresh_good root good = one_part root (codes ".gopass-journal.new") good (omega arith) refl (literal_part (codes ".gopass-journal.new") (omega arith) (omega arith) refl)
@@ -32,13 +18,6 @@ pub stage_dir_good : (root : Text) → IsDirPath root → IsFilePath (path_in ro
 stage_dir_good root good = one_part root (codes ".gopass-stage") good (omega arith) refl stage_part
 
 -- ---- the path of a staged file
-
-alone : (b : ℕ) (text : Text) → b ≢ 47 → parts text ≡ text ∷ [] → parts (b ∷ text) ≡ (b ∷ text) ∷ []
-alone b text other one =
-    ap (λ (ps : List Text). cond (eqb b 47) ([] ∷ ps) (onto_first b ps)) one ∙ ap (λ t. cond t ([] ∷ text ∷ []) ((b ∷ text) ∷ [])) (ne_eqb b 47 other)
-
-no_slash : (n : ℕ) → digit n ≢ 47
-no_slash n e = absurd (omega (arith, e))
 
 shown : (n : ℕ) → IsPrintable (digit n)
 shown n = (omega arith, λ e. absurd (omega (arith, e)))
@@ -57,15 +36,6 @@ d i = digit (i / 100)
 
 abbrev e : ℕ → ℕ
 e i = digit (i / 10)
-
-digits_alone : (i : ℕ) → parts (six_digits i) ≡ six_digits i ∷ []
-digits_alone i =
-    alone (a i) (b i ∷ c i ∷ d i ∷ e i ∷ digit i ∷ []) (no_slash (i / 100000))
-    (alone (b i) (c i ∷ d i ∷ e i ∷ digit i ∷ []) (no_slash (i / 10000))
-    (alone (c i) (d i ∷ e i ∷ digit i ∷ []) (no_slash (i / 1000))
-    (alone (d i) (e i ∷ digit i ∷ []) (no_slash (i / 100))
-    (alone (e i) (digit i ∷ []) (no_slash (i / 10))
-    (alone (digit i) [] (no_slash i) refl)))))
 
 digits_shown : (i : ℕ) → All IsPrintable (six_digits i)
 digits_shown i =
@@ -90,7 +60,7 @@ abbrev pub stage_rest : ℕ → Text
 stage_rest i = codes ".gopass-stage/" ++ six_digits i
 
 stage_rest_parts : (i : ℕ) → parts (stage_rest i) ≡ codes ".gopass-stage" ∷ six_digits i ∷ []
-stage_rest_parts i = parts_join (codes ".gopass-stage") (six_digits i) ∙ ap (λ (ps : List Text). codes ".gopass-stage" ∷ ps) (digits_alone i)
+stage_rest_parts i = parts_join (codes ".gopass-stage") (six_digits i) ∙ ap (λ (ps : List Text). codes ".gopass-stage" ∷ ps) (six_parts i)
 
 pub stage_good : (root : Text) (i : ℕ) → IsDirPath root → IsFilePath (path_in root (stage_rest i))
 stage_good root i good =

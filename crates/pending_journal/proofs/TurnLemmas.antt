@@ -1,5 +1,5 @@
 -- One turn of each loop of a commit.
-use Rattle.std.proofs.Common.{◌≡◌, ℕ, ◌+◌, ◌<◌, List, length, get_or, Option, None, Some, refl, sym, ◌∙◌, ap, subst}
+use Rattle.std.proofs.Common.{◌≡◌, ℕ, ◌+◌, ◌<◌, length, get_or, None, Some, sym, ◌∙◌, ap, subst}
 use Rattle.gopass_base.specs.Text.{Text}
 use Rattle.disk_model.specs.Files.{Files, put, moved, Writes, Moves, Drops}
 use Rattle.disk_model.specs.Disk.{View, Steps}
@@ -9,9 +9,9 @@ use Rattle.pending_journal.specs.declared.put.Put.{Put}
 use Rattle.pending_journal.specs.declared.change.Change.{Change}
 use Rattle.pending_journal.specs.Built.{IsBuilt}
 use Rattle.pending_journal.specs.Change.{plan_in}
-use Rattle.pending_journal.specs.Carrying.{IsUnseen, IsOfPlan, IsStaged, IsFetched, IsDropped}
+use Rattle.pending_journal.specs.Carrying.{IsUnseen, IsOfPlan, IsStaged, IsFetched}
 use Rattle.pending_journal.proofs.RedoLemmas.{unseen_put, unseen_same, unseen_then, plan_same, plan_then}
-use Rattle.pending_journal.proofs.ChangeLemmas.{moves_of, IsPut, is_put, move_step, drop_step, staged_more, fetched_more, dropped_more}
+use Rattle.pending_journal.proofs.ChangeLemmas.{moves_of, IsPut, is_put, move_step, drop_step, staged_more, fetched_more}
 
 module _ (root : Text) (change : Change) (ok : IsBuilt root change.journal change.fresh change.text.items change.puts_end change.puts.items change.drops.items) where
   module _ (i : ℕ) (p : Put) (is : p ≡ get_or change.puts.items i p) (lt : i < length change.puts.items) where
@@ -41,6 +41,3 @@ module _ (root : Text) (change : Change) (ok : IsBuilt root change.journal chang
         let R = IsOfPlan root (plan_in change) in
         runs_then R (plan_same root (plan_in change)) (plan_then root (plan_in change)) start old new run
         (runs_step R (plan_same root (plan_in change)) (Drops p) old new (λ m n made. subst (R m) (ap (λ (q : Text). put m q None) (sym is) ∙ sym made) (drop_step root change ok i p lt m)) step)
-
-    pub drop_files : (before old new : Files) → IsDropped change i before old → new ≡ put old p None → IsDropped change (i + 1) before new
-    drop_files before old new so made = subst (IsDropped change (i + 1) before) (ap (λ (q : Text). put old q None) (sym is) ∙ sym made) (dropped_more change i p lt before old so)

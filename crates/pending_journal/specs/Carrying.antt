@@ -1,9 +1,9 @@
 -- What the parts of a commit come to.
-use Rattle.std.specs.Prelude.{◌≡◌, ◌≢◌, ◌⊎◌, ℕ, ◌<◌, List, length, get_or, Option, None, Some}
+use Rattle.std.specs.Prelude.{◌≡◌, ◌≢◌, ◌⊎◌, ℕ, ◌<◌, List, length, get_or, None, Some}
 use Rattle.gopass_base.specs.Text.{Text}
 use Rattle.disk_model.specs.Files.{Files}
 use Rattle.pending_journal.specs.Service.{without_service, journal_path}
-use Rattle.pending_journal.specs.Journal.{Plan}
+use Rattle.pending_journal.specs.Journal.{JournalPlan}
 use Rattle.pending_journal.specs.Redo.{redone}
 use Rattle.pending_journal.specs.declared.put.Put.{Put}
 use Rattle.pending_journal.specs.declared.change.Change.{Change}
@@ -14,7 +14,7 @@ pub record IsUnseen (root : Text) (m n : Files) : Type 0 where
   pub plain : without_service root n ≡ without_service root m
 
 -- what the plan makes of the files is the same, and so is the journal
-pub record IsOfPlan (root : Text) (plan : Plan) (m n : Files) : Type 0 where
+pub record IsOfPlan (root : Text) (plan : JournalPlan) (m n : Files) : Type 0 where
   pub journal : n (journal_path root) ≡ m (journal_path root)
   pub redone : redone root plan n ≡ redone root plan m
 
@@ -40,9 +40,9 @@ pub record IsFetched (change : Change) (n : ℕ) (before files : Files) : Type 0
   pub gone : (j : ℕ) (d : Put) → j < n → files (get_or change.puts.items j d).staged ≡ None
   pub none : (q : Text) → IsNoPut change q → before q ≡ None → files q ≡ None
 
--- the first n dropped paths are gone, and no file has come
-pub record IsDropped (change : Change) (n : ℕ) (before files : Files) : Type 0 where
-  pub gone : (j : ℕ) (d : Text) → j < n → files (get_or change.drops.items j d) ≡ None
+-- the first n of these paths are gone, and no file has come
+pub record IsRemoved (paths : List Text) (n : ℕ) (before files : Files) : Type 0 where
+  pub gone : (j : ℕ) (d : Text) → j < n → files (get_or paths j d) ≡ None
   pub none : (q : Text) → before q ≡ None → files q ≡ None
 
 -- every put is staged, the journal stands under its first name, and all else is as before

@@ -1,9 +1,9 @@
 -- A change of many files.
-use Rattle.std.specs.Prelude.{◌≡◌, ◌<◌, ◌≤◌, ℕ, false, true, List, [], ◌∷◌, ◌++◌, length, Contains, Option, None, Some, Result, Ok, Err, bytes_eq, if◌then◌else◌}
+use Rattle.std.specs.Prelude.{◌≡◌, ◌<◌, ◌≤◌, false, true, List, [], ◌∷◌, length, Contains, Option, None, Some, Result, Ok, Err, bytes_eq, if◌then◌else◌}
 use Rattle.gopass_base.specs.Text.{Text}
 use Rattle.disk_model.specs.Files.{Files}
 use Rattle.pending_journal.specs.Service.{is_service}
-use Rattle.pending_journal.specs.Journal.{Plan, named}
+use Rattle.pending_journal.specs.Journal.{JournalPlan, paths_of}
 use Rattle.pending_journal.specs.Redo.{is_among}
 use Rattle.pending_journal.specs.Built.{plan_by}
 use Rattle.pending_journal.specs.declared.put.Put.{Put}
@@ -12,7 +12,7 @@ use Rattle.pending_journal.specs.declared.change.ChangeAddFault.{ChangeAddFault}
 use Rattle.pending_journal.specs.declared.change.ChangeAddFault.TheVariants.{TwoForOne, Service, Long, NoMemory}
 
 -- the paths of its puts and drops
-abbrev pub plan_in : Change → Plan
+abbrev pub plan_in : Change → JournalPlan
 plan_in change = plan_by change.puts.items change.drops.items
 
 -- a file and its bytes
@@ -34,21 +34,21 @@ unfoldable pub changed : Change → Files → Files
 changed change files path = if is_among change.drops.items path then None else put_at (puts_in change) path (files path)
 
 -- the same puts and drops for the same root
-pub record IsSame (old new : Change) : Type 0 where
+pub record IsSameChange (old new : Change) : Type 0 where
   pub root : new.root ≡ old.root
   pub puts : new.puts.items ≡ old.puts.items
   pub drops : new.drops.items ≡ old.drops.items
 
 -- a path may be added where no step has it, it is none of the vault's own, and fewer than 16,400 steps are held. The
 -- refusals stand in this order
-abbrev pub MayAdd : (root : Text) → Plan → Text → {T : Type 0} → Result T ChangeAddFault → Type 0
-MayAdd root plan path (Ok done) = (¬ Contains (named plan) path) × (is_service root path ≡ false) × (length (named plan) < 16400)
-MayAdd root plan path (Err TwoForOne) = Contains (named plan) path
-MayAdd root plan path (Err Service) = (¬ Contains (named plan) path) × (is_service root path ≡ true)
-MayAdd root plan path (Err Long) = (¬ Contains (named plan) path) × (is_service root path ≡ false) × (16400 ≤ length (named plan))
+abbrev pub MayAdd : (root : Text) → JournalPlan → Text → {T : Type 0} → Result T ChangeAddFault → Type 0
+MayAdd root plan path (Ok done) = (¬ Contains (paths_of plan) path) × (is_service root path ≡ false) × (length (paths_of plan) < 16400)
+MayAdd root plan path (Err TwoForOne) = Contains (paths_of plan) path
+MayAdd root plan path (Err Service) = (¬ Contains (paths_of plan) path) × (is_service root path ≡ true)
+MayAdd root plan path (Err Long) = (¬ Contains (paths_of plan) path) × (is_service root path ≡ false) × (16400 ≤ length (paths_of plan))
 MayAdd root plan path (Err NoMemory) = Unit {0}
 
 -- a refusal as an answer
-abbrev pub refusal_of : Option ChangeAddFault → Result (Unit {0}) ChangeAddFault
-refusal_of None = Ok tt
-refusal_of (Some fault) = Err fault
+abbrev pub as_result : Option ChangeAddFault → Result (Unit {0}) ChangeAddFault
+as_result None = Ok tt
+as_result (Some fault) = Err fault

@@ -1,18 +1,19 @@
 -- The text of a journal, and what it asks for.
-use Rattle.std.specs.Prelude.{◌≡◌, ◌≢◌, ◌<◌, ◌≤◌, ◌/◌, ◌%◌, ◌+◌, ℕ, false, List, [], ◌∷◌, ◌++◌, length, get_or, codes, All, IsTrue}
+use Rattle.std.specs.Prelude.{◌≡◌, ◌≢◌, ◌≤◌, ◌/◌, ◌%◌, ◌+◌, ℕ, false, List, [], ◌∷◌, ◌++◌, length, codes, All, AllPairs, IsTrue}
 use Rattle.std.specs.Str.{is_utf8}
 use Rattle.gopass_base.specs.Text.{Text}
 use Rattle.mount_table.specs.Paths.{IsFilePath, path_in}
 use Rattle.pending_journal.specs.Service.{is_service, stage_dir}
 
--- what a journal asks for: the files of the stage are moved to these paths in their order, and the files at those are removed
-pub record Plan : Type 0 where
+-- what a journal asks for: the files of the stage are moved to the paths of the puts in their order, and the files at the
+-- drops are removed
+pub record JournalPlan : Type 0 where
   pub puts : List Text
   pub drops : List Text
 
 -- the paths that it names
-abbrev pub named : Plan → List Text
-named plan = plan.puts ++ plan.drops
+abbrev pub paths_of : JournalPlan → List Text
+paths_of plan = plan.puts ++ plan.drops
 
 -- a line for each path, and then the rest
 abbrev pub put_lines : List Text → Text → Text
@@ -24,20 +25,16 @@ drop_lines [] rest = rest
 drop_lines (path ∷ paths) rest = codes "drop\t" ++ (path ++ 10 ∷ drop_lines paths rest)
 
 -- the text, whose last line is `end`
-abbrev pub text_of : Plan → Text
-text_of plan = codes "journal 1\n" ++ put_lines plan.puts (drop_lines plan.drops (codes "end\n"))
-
--- no two of them are the same
-abbrev pub Differ : List Text → Type 0
-Differ texts = (i j : ℕ) (d : Text) → i < j → j < length texts → get_or texts i d ≢ get_or texts j d
+abbrev pub journal_text : JournalPlan → Text
+journal_text plan = codes "journal 1\n" ++ put_lines plan.puts (drop_lines plan.drops (codes "end\n"))
 
 -- a journal may ask for this: at most 16,400 paths of files, each once, none of which is the vault's own
-pub record IsPlan (root : Text) (plan : Plan) : Type 0 where
-  pub paths : All IsFilePath (named plan)
-  pub texts : All (λ path. IsTrue (is_utf8 path)) (named plan)
-  pub plain : All (λ path. is_service root path ≡ false) (named plan)
-  pub differ : Differ (named plan)
-  pub few : length (named plan) ≤ 16400
+pub record IsJournalPlan (root : Text) (plan : JournalPlan) : Type 0 where
+  pub paths : All IsFilePath (paths_of plan)
+  pub texts : All (λ path. IsTrue (is_utf8 path)) (paths_of plan)
+  pub plain : All (λ path. is_service root path ≡ false) (paths_of plan)
+  pub differ : AllPairs (λ a b. a ≢ b) (paths_of plan)
+  pub few : length (paths_of plan) ≤ 16400
 
 -- a decimal digit of a number
 abbrev pub digit : ℕ → ℕ

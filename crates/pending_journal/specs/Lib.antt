@@ -7,7 +7,5 @@ pub mod Carrying
 pub mod Recovery
 pub mod Faults
 pub mod Own
-pub mod Reading
 pub mod Opened
-pub mod Listed
 pub mod Steps

@@ -14,14 +14,14 @@ pub record IsFresh {D : Type 0} {G : Ghosts D} (root : Text) (vault : Vault D G)
   pub free : IsFalse vault.stuck
 
 -- of the vault, where there is one
-abbrev pub IfReady : {D : Type 0} {G : Ghosts D} → VaultOpened D G → (Vault D G → Type 0) → Type 0
-IfReady (Ready vault) P = P vault
-IfReady (Refused fault disk) P = Unit {0}
+abbrev pub IfVaultReady : {D : Type 0} {G : Ghosts D} → VaultOpened D G → (Vault D G → Type 0) → Type 0
+IfVaultReady (Ready vault) P = P vault
+IfVaultReady (Refused fault disk) P = Unit {0}
 
 -- of the fault and the disk that is handed back
-abbrev pub IfRefused : {D : Type 0} {G : Ghosts D} → VaultOpened D G → (VaultFault → D → Type 0) → Type 0
-IfRefused (Ready vault) P = Unit {0}
-IfRefused (Refused fault disk) P = P fault disk
+abbrev pub IfVaultRefused : {D : Type 0} {G : Ghosts D} → VaultOpened D G → (VaultFault → D → Type 0) → Type 0
+IfVaultRefused (Ready vault) P = Unit {0}
+IfVaultRefused (Refused fault disk) P = P fault disk
 
 -- of the disk, in the vault or handed back
 abbrev pub OnDisk : {D : Type 0} {G : Ghosts D} → VaultOpened D G → (D → Type 0) → Type 0
@@ -29,7 +29,7 @@ OnDisk (Ready vault) P = P vault.disk
 OnDisk (Refused fault disk) P = P disk
 
 -- root, commits and whether it is stuck stay
-pub record IsKept {D : Type 0} {G : Ghosts D} (old new : Vault D G) : Type 0 where
+pub record IsSameVault {D : Type 0} {G : Ghosts D} (old new : Vault D G) : Type 0 where
   pub root : new.root ≡ old.root
   pub commits : new.commits ≡ old.commits
   pub stuck : new.stuck ≡ old.stuck

@@ -1,11 +1,11 @@
 -- What the parts of an opening come to.
-use Rattle.std.specs.Prelude.{◌≡◌, ◌≢◌, ◌⊎◌, ℕ, ◌<◌, true, false, List, length, get_or, None}
+use Rattle.std.specs.Prelude.{◌≡◌, ◌≢◌, ◌⊎◌, true, false, List, None}
 use Rattle.gopass_base.specs.Text.{Text}
 use Rattle.disk_model.specs.Files.{Files}
 use Rattle.disk_model.specs.Disk.{View, Only}
 use Rattle.disk_model.specs.Runs.{Leaves}
 use Rattle.pending_journal.specs.Service.{is_service, without_service, journal_path}
-use Rattle.pending_journal.specs.Redo.{StandsFor, IsAlike, is_among}
+use Rattle.pending_journal.specs.Redo.{RecoversTo, IsAlike, is_among}
 
 -- an image of the disk, or files that stand for the same as its files
 abbrev pub IsOldOrAlike : Text → View → Files → Type 0
@@ -25,7 +25,7 @@ pub record IsUntouched (old new : View) : Type 0 where
 pub record IsMended (root : Text) (before : Files) (disk : View) : Type 0 where
   pub only : Only disk.files disk
   pub journal : disk.files (journal_path root) ≡ None
-  pub stands : StandsFor root before (without_service root disk.files)
+  pub stands : RecoversTo root before (without_service root disk.files)
 
 -- of the vault's own nothing is there but the journal
 abbrev pub IsCleared : Text → Files → Type 0
@@ -34,8 +34,3 @@ IsCleared root files = (path : Text) → is_service root path ≡ true → path 
 -- only these paths may differ
 abbrev pub IsSameBut : List Text → Files → Files → Type 0
 IsSameBut paths m n = (q : Text) → is_among paths q ≡ false → n q ≡ m q
-
--- the first n of these paths are gone, and no file has come
-pub record IsRemoved (paths : List Text) (n : ℕ) (before files : Files) : Type 0 where
-  pub gone : (j : ℕ) (d : Text) → j < n → files (get_or paths j d) ≡ None
-  pub none : (q : Text) → before q ≡ None → files q ≡ None

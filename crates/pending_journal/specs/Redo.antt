@@ -1,10 +1,11 @@
 -- What the files that a crash leaves stand for.
 use Rattle.std.specs.Prelude.{◌≡◌, ◌⊎◌, ◌+◌, ℕ, Bool, true, false, ◌||◌, List, [], ◌∷◌, Option, None, Some, bytes_eq, if◌then◌else◌}
+use Rattle.std.specs.Option.{option_or}
 use Rattle.gopass_base.specs.Text.{Text}
 use Rattle.disk_model.specs.Files.{Files}
 use Rattle.disk_model.specs.Disk.{View, Only}
 use Rattle.pending_journal.specs.Service.{is_service, without_service, journal_path}
-use Rattle.pending_journal.specs.Journal.{Plan, IsPlan, text_of, stage_path}
+use Rattle.pending_journal.specs.Journal.{JournalPlan, IsJournalPlan, journal_text, stage_path}
 
 -- a move: the path in the stage, and the path to which its file goes
 abbrev pub Move : Type 0
@@ -24,14 +25,10 @@ abbrev pub is_among : List Text → Text → Bool
 is_among [] path = false
 is_among (p ∷ paths) path = bytes_eq p path || is_among paths path
 
-abbrev pub or_else : Option Text → Option Text → Option Text
-or_else None here = here
-or_else (Some bytes) here = Some bytes
-
 -- the staged file where it is there, and else the file that is here
 abbrev pub brought : Files → Option Text → Option Text → Option Text
 brought files None here = here
-brought files (Some from) here = or_else (files from) here
+brought files (Some from) here = option_or (files from) here
 
 -- the files in which each put whose staged file is there is moved to its path and each dropped path is removed, without
 -- the vault's own
@@ -39,25 +36,25 @@ unfoldable pub redone_by : Text → List Move → List Text → Files → Files
 redone_by root moves drops files path =
     if is_service root path || is_among drops path then None else brought files (source_of moves path) (files path)
 
-abbrev pub redone : Text → Plan → Files → Files
+abbrev pub redone : Text → JournalPlan → Files → Files
 redone root plan files = redone_by root (moves_from root 0 plan.puts) plan.drops files
 
 -- what files with such a journal, or without one, stand for
-abbrev pub StandsBy : Text → Option Text → Files → Files → Type 0
-StandsBy root None files after = after ≡ without_service root files
-StandsBy root (Some text) files after = (plan : Plan) × IsPlan root plan × (text ≡ text_of plan) × (after ≡ redone root plan files)
+abbrev pub RecoversBy : Text → Option Text → Files → Files → Type 0
+RecoversBy root None files after = after ≡ without_service root files
+RecoversBy root (Some text) files after = (plan : JournalPlan) × IsJournalPlan root plan × (text ≡ journal_text plan) × (after ≡ redone root plan files)
 
 -- what the files stand for
-abbrev pub StandsFor : Text → Files → Files → Type 0
-StandsFor root files after = StandsBy root (files (journal_path root)) files after
+abbrev pub RecoversTo : Text → Files → Files → Type 0
+RecoversTo root files after = RecoversBy root (files (journal_path root)) files after
 
 -- they stand for the same files
 abbrev pub IsAlike : Text → Files → Files → Type 0
-IsAlike root files others = (after : Files) × StandsFor root files after × StandsFor root others after
+IsAlike root files others = (after : Files) × RecoversTo root files after × RecoversTo root others after
 
 -- they stand for the files before or for those after
 abbrev pub IsBeforeOrAfter : Text → Files → Files → Files → Type 0
-IsBeforeOrAfter root before after files = StandsFor root files before ⊎ StandsFor root files after
+IsBeforeOrAfter root before after files = RecoversTo root files before ⊎ RecoversTo root files after
 
 -- the files are the only image, and none of the vault's own is there
 pub record IsAtRest (root : Text) (disk : View) : Type 0 where

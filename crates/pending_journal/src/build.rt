@@ -2,12 +2,11 @@
 
 ghost use Rattle.std.specs.Prelude.{◌≡◌, ◌++◌, ◌∷◌, [], ◌↔◌, codes, Contains, IfOk, OnOk, OnErr, IsTrue, bytes_eq, string_bytes};
 ghost use Rattle.std.specs.List.{list_any};
-ghost use Rattle.pending_journal.specs.Journal.{named, stage_path, digit, six_digits};
-ghost use Rattle.pending_journal.specs.Change.{plan_in, puts_in, IsSame, MayAdd, refusal_of};
+ghost use Rattle.pending_journal.specs.Journal.{paths_of, stage_path, digit, six_digits};
+ghost use Rattle.pending_journal.specs.Change.{plan_in, puts_in, IsSameChange, MayAdd, as_result};
 
 use crate::change::{Change, ChangeAddFault};
 use crate::lines::with_line;
-use crate::own::path_at;
 use crate::put::Put;
 use crate::service::is_service;
 use gopass_base::NoMemory;
@@ -44,7 +43,7 @@ fn stage_path(alloc: Global, root: &DirPath, i: usize) -> Result<FilePath, NoMem
     ensures { IfOk result (λ path. path ≡ stage_path root.now i) }
 {
     let rest = stage_rest(alloc, i)?;
-    path_at(alloc, root, &rest)
+    root.file_at(alloc, &rest)
 }
 
 /// Whether a put is for the path.
@@ -71,7 +70,7 @@ impl Change {
         Ok(Change {
             root: root.copy(alloc)?,
             journal: root.service_file(alloc, ServiceFile::Journal)?,
-            fresh: path_at(alloc, root, ".gopass-journal.new")?,
+            fresh: root.file_at(alloc, ".gopass-journal.new")?,
             text: b"journal 1\nend\n".to_vec(alloc)?,
             puts_end: 10,
             puts: Vec::new(alloc),
@@ -81,14 +80,14 @@ impl Change {
 
     /// Whether a step is for the path.
     fn has_step(&self, path: &FilePath) -> bool
-        ensures { IsTrue result ↔ Contains (named (plan_in self.now)) path.now }
+        ensures { IsTrue result ↔ Contains (paths_of (plan_in self.now)) path.now }
     {
         is_put(&self.puts, path) || is_dropped(&self.drops, path)
     }
 
     /// Why a step for the path is not added, where it is not.
     fn refusal(&self, path: &FilePath) -> Option<ChangeAddFault>
-        ensures { MayAdd self.now.root (plan_in self.now) path.now (refusal_of result) }
+        ensures { MayAdd self.now.root (plan_in self.now) path.now (as_result result) }
     {
         if self.has_step(path) {
             Some(ChangeAddFault::TwoForOne)
@@ -107,7 +106,7 @@ impl Change {
         ensures added { OnOk result (puts_in self.new ≡ puts_in self.old ++ (path, bytes.items) ∷ []) }
         ensures drops { self.new.drops.items ≡ self.old.drops.items }
         ensures root { self.new.root ≡ self.old.root }
-        ensures same { OnErr result (IsSame self.old self.new) }
+        ensures same { OnErr result (IsSameChange self.old self.new) }
     {
         if let Some(fault) = self.refusal(&path) {
             return Err(fault);
@@ -132,7 +131,7 @@ impl Change {
         ensures added { OnOk result (self.new.drops.items ≡ self.old.drops.items ++ path ∷ []) }
         ensures puts { self.new.puts.items ≡ self.old.puts.items }
         ensures root { self.new.root ≡ self.old.root }
-        ensures same { OnErr result (IsSame self.old self.new) }
+        ensures same { OnErr result (IsSameChange self.old self.new) }
     {
         if let Some(fault) = self.refusal(&path) {
             return Err(fault);

@@ -3,7 +3,7 @@
 ghost use Rattle.std.specs.Prelude.{◌≡◌, ◌<◌, ◌≤◌, ◌+◌, ◌-◌, ◌++◌, ◌∷◌, [], ◌↔◌, ℕ, length, take, drop, codes, Contains, IfOk, OnOk, OnErr, IsTrue};
 ghost use Rattle.mount_table.specs.Paths.{IsDirPath, IsFilePath, path_in};
 ghost use Rattle.pending_journal.specs.Service.{journal_path, fresh_path};
-ghost use Rattle.pending_journal.specs.Journal.{named, stage_path, put_lines, drop_lines};
+ghost use Rattle.pending_journal.specs.Journal.{paths_of, stage_path, put_lines, drop_lines};
 ghost use Rattle.pending_journal.specs.Built.{IsBuilt};
 ghost use Rattle.pending_journal.specs.declared.change.ChangeAddFault.TheVariants.{NoMemory as no_memory};
 

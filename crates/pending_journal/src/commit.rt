@@ -3,11 +3,11 @@
 ghost use Rattle.std.specs.Prelude.{◌≡◌, ℕ, length, None, Some, OnOk, Err};
 ghost use Rattle.gopass_base.specs.Faults.{HasCause};
 ghost use Rattle.disk_model.specs.Files.{put, moved};
-ghost use Rattle.disk_model.specs.Disk.{Only, Stands};
+ghost use Rattle.disk_model.specs.Disk.{Only, IsDurable};
 ghost use Rattle.disk_model.specs.Runs.{Runs, Leaves};
 ghost use Rattle.pending_journal.specs.Redo.{IsAtRest, IsBeforeOrAfter};
 ghost use Rattle.pending_journal.specs.Change.{plan_in, changed};
-ghost use Rattle.pending_journal.specs.Carrying.{IsUnseen, IsOfPlan, IsEither, IsStaged, IsFetched, IsDropped, IsReady, IsCarried};
+ghost use Rattle.pending_journal.specs.Carrying.{IsUnseen, IsOfPlan, IsEither, IsStaged, IsFetched, IsRemoved, IsReady, IsCarried};
 
 use crate::change::Change;
 use disk_model::{Disk, DiskFault};
@@ -40,7 +40,7 @@ fn fetch<D: Disk>(disk: &mut D, change: &Change) -> Result<(), DiskFault>
 /// Removes the file at each dropped path.
 fn drop_all<D: Disk>(disk: &mut D, change: &Change) -> Result<(), DiskFault>
     ensures runs { D.meaning.tells → Runs (IsOfPlan change.now.root (plan_in change.now)) (D.meaning.view disk.old) (D.meaning.view disk.new) }
-    ensures dropped { OnOk result (D.meaning.tells → IsDropped change.now (length change.now.drops.items) (D.meaning.view disk.old).files (D.meaning.view disk.new).files) }
+    ensures dropped { OnOk result (D.meaning.tells → IsRemoved change.now.drops.items (length change.now.drops.items) (D.meaning.view disk.old).files (D.meaning.view disk.new).files) }
     ensures cause { HasCause (D.meaning.faults disk.old) (D.meaning.faults disk.new) (result ≡ Err DiskFault.Failed) }
 {
     for path in &change.drops {
@@ -65,7 +65,7 @@ fn prepare<D: Disk>(disk: &mut D, change: &Change) -> Result<(), DiskFault>
 fn seal<D: Disk>(disk: &mut D, change: &Change) -> Result<(), DiskFault>
     ensures leaves { D.meaning.tells → Only (D.meaning.view disk.old).files (D.meaning.view disk.old)
         → Leaves (IsEither (D.meaning.view disk.old).files (moved change.now.fresh change.now.journal (D.meaning.view disk.old).files)) (D.meaning.view disk.old) (D.meaning.view disk.new) }
-    ensures sealed { OnOk result (D.meaning.tells → Stands (moved change.now.fresh change.now.journal (D.meaning.view disk.old).files) (D.meaning.view disk.new)) }
+    ensures sealed { OnOk result (D.meaning.tells → IsDurable (moved change.now.fresh change.now.journal (D.meaning.view disk.old).files) (D.meaning.view disk.new)) }
     ensures cause { HasCause (D.meaning.faults disk.old) (D.meaning.faults disk.new) (result ≡ Err DiskFault.Failed) }
 {
     disk.rename(&change.fresh, &change.journal)?;
@@ -88,7 +88,7 @@ pub(crate) fn settle<D: Disk>(disk: &mut D, change: &Change) -> Result<(), DiskF
 pub(crate) fn finish<D: Disk>(disk: &mut D, journal: &FilePath) -> Result<(), DiskFault>
     ensures leaves { D.meaning.tells → Only (D.meaning.view disk.old).files (D.meaning.view disk.old)
         → Leaves (IsEither (D.meaning.view disk.old).files (put (D.meaning.view disk.old).files journal.now None)) (D.meaning.view disk.old) (D.meaning.view disk.new) }
-    ensures ended { OnOk result (D.meaning.tells → Stands (put (D.meaning.view disk.old).files journal.now None) (D.meaning.view disk.new)) }
+    ensures ended { OnOk result (D.meaning.tells → IsDurable (put (D.meaning.view disk.old).files journal.now None) (D.meaning.view disk.new)) }
     ensures cause { HasCause (D.meaning.faults disk.old) (D.meaning.faults disk.new) (result ≡ Err DiskFault.Failed) }
 {
     disk.remove(journal)?;
@@ -99,7 +99,7 @@ pub(crate) fn finish<D: Disk>(disk: &mut D, journal: &FilePath) -> Result<(), Di
 pub(crate) fn carry_out<D: Disk>(disk: &mut D, change: &Change) -> Result<(), DiskFault>
     requires rests { D.meaning.tells → IsAtRest change.now.root (D.meaning.view disk.old) }
     ensures any_moment { D.meaning.tells → Leaves (IsBeforeOrAfter change.now.root (D.meaning.view disk.old).files (changed change.now (D.meaning.view disk.old).files)) (D.meaning.view disk.old) (D.meaning.view disk.new) }
-    ensures made { OnOk result (D.meaning.tells → Stands (changed change.now (D.meaning.view disk.old).files) (D.meaning.view disk.new)) }
+    ensures made { OnOk result (D.meaning.tells → IsDurable (changed change.now (D.meaning.view disk.old).files) (D.meaning.view disk.new)) }
     ensures at_rest { OnOk result (D.meaning.tells → IsAtRest change.now.root (D.meaning.view disk.new)) }
     ensures cause { HasCause (D.meaning.faults disk.old) (D.meaning.faults disk.new) (result ≡ Err DiskFault.Failed) }
 {

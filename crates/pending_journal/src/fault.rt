@@ -11,7 +11,8 @@ use gopass_base::NoMemory as NoRoom;
 pub enum VaultFault {
     /// The disk failed.
     Disk,
-    /// The first line of the journal that does not read, from 1.
+    /// The first line of the journal that does not read, from 1, or the first of a journal that is
+    /// longer than any plan's.
     BadJournal(usize),
     NoMemory,
 }
@@ -25,10 +26,10 @@ impl From<NoRoom> for VaultFault {
 }
 
 impl From<DiskFault> for VaultFault {
-    ghost use Rattle.pending_journal.specs.Faults.{fault_of_disk};
+    ghost use Rattle.pending_journal.specs.Faults.{vault_fault_by_disk};
     ghost use Rattle.std.specs.Prelude.{◌≡◌};
 
-    ghost from_gives = { λ fault e. e ≡ fault_of_disk fault };
+    ghost from_gives = { λ fault e. e ≡ vault_fault_by_disk fault };
 
     fn from(fault: DiskFault) -> Self {
         match fault {

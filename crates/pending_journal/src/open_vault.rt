@@ -3,10 +3,10 @@
 ghost use Rattle.std.specs.Prelude.{◌≡◌, ◌≤◌, IfOk, Err, Some};
 ghost use Rattle.gopass_base.specs.Faults.{HasCause};
 ghost use Rattle.disk_model.specs.Runs.{Leaves};
-ghost use Rattle.pending_journal.specs.Redo.{IsAtRest, StandsFor};
+ghost use Rattle.pending_journal.specs.Redo.{IsAtRest, RecoversTo};
 ghost use Rattle.pending_journal.specs.Recovery.{IsOldOrAlike, IsUntouched};
 ghost use Rattle.pending_journal.specs.Faults.{RefusesVault};
-ghost use Rattle.pending_journal.specs.Opened.{IfReady, IfRefused, IsFresh, OnDisk};
+ghost use Rattle.pending_journal.specs.Opened.{IfVaultReady, IfVaultRefused, IsFresh, OnDisk};
 
 use crate::fault::VaultFault;
 use crate::recover::recover;
@@ -29,11 +29,11 @@ impl<D: Disk> Vault<D> {
     /// read, and then no file is changed.
     pub fn open(alloc: Global, disk: D, root: &DirPath) -> VaultOpened<D>
         ensures any_moment { OnDisk result (λ after. D.meaning.tells → Leaves (IsOldOrAlike root.now (D.meaning.view disk)) (D.meaning.view disk) (D.meaning.view after)) }
-        ensures ready { IfReady result (λ vault. IsFresh root.now vault
-            × (D.meaning.tells → StandsFor root.now (D.meaning.view disk).files (D.meaning.view vault.disk).files × IsAtRest root.now (D.meaning.view vault.disk))) }
-        ensures refused { IfRefused result (λ fault after. D.meaning.tells → RefusesVault root.now (D.meaning.view disk).files fault) }
-        ensures untouched { IfRefused result (λ fault after. (n : _) → fault ≡ VaultFault.BadJournal n → D.meaning.tells → IsUntouched (D.meaning.view disk) (D.meaning.view after)) }
-        ensures cause { IfRefused result (λ fault after. HasCause (D.meaning.faults disk) (D.meaning.faults after) (fault ≡ VaultFault.Disk)) }
+        ensures ready { IfVaultReady result (λ vault. IsFresh root.now vault
+            × (D.meaning.tells → RecoversTo root.now (D.meaning.view disk).files (D.meaning.view vault.disk).files × IsAtRest root.now (D.meaning.view vault.disk))) }
+        ensures refused { IfVaultRefused result (λ fault after. D.meaning.tells → RefusesVault root.now (D.meaning.view disk).files fault) }
+        ensures untouched { IfVaultRefused result (λ fault after. (n : _) → fault ≡ VaultFault.BadJournal n → D.meaning.tells → IsUntouched (D.meaning.view disk) (D.meaning.view after)) }
+        ensures cause { IfVaultRefused result (λ fault after. HasCause (D.meaning.faults disk) (D.meaning.faults after) (fault ≡ VaultFault.Disk)) }
         ensures later { OnDisk result (λ after. D.meaning.faults disk ≤ D.meaning.faults after) }
     {
         let mut disk = disk;

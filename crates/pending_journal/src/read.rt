@@ -1,16 +1,16 @@
 //! Reading a journal.
 
-ghost use Rattle.std.specs.Prelude.{◌≡◌, ◌≤◌, [], IfOk, IfErr, OnOk, IsTrue, MatchOption, Err};
+ghost use Rattle.std.specs.Prelude.{◌≡◌, ◌≤◌, ◌+◌, [], length, IfOk, IfErr, OnOk, IsTrue, Err};
 ghost use Rattle.std.specs.Str.{is_utf8};
 ghost use Rattle.mount_table.specs.Paths.{IsFilePath};
-ghost use Rattle.pending_journal.specs.Journal.{Plan, IsPlan};
+ghost use Rattle.pending_journal.specs.Journal.{JournalPlan, IsJournalPlan};
 ghost use Rattle.pending_journal.specs.Change.{plan_in};
-ghost use Rattle.pending_journal.specs.Reading.{RefusesText};
-ghost use Rattle.pending_journal.specs.Steps.{with_put, with_drop, IsStep, begun};
+ghost use Rattle.pending_journal.specs.Faults.{RefusesText};
+ghost use Rattle.pending_journal.specs.Steps.{with_put, with_drop, IsStep, journal_start};
 
 use crate::change::{Change, ChangeAddFault};
 use crate::fault::VaultFault;
-use gopass_base::cut;
+use gopass_base::{as_text, cut};
 use mount_table::{DirPath, FilePath, PathFault};
 use std::alloc::Global;
 
@@ -67,20 +67,21 @@ pub(crate) fn read_journal(alloc: Global, root: &DirPath, text: &[u8]) -> Result
 /// The change with the steps of these lines, the last of which is `end`.
 fn read_lines(alloc: Global, mut change: Change, lines: &[u8]) -> Result<Change, VaultFault>
     ensures root { IfOk result (λ read. read.root ≡ change.root) }
-    ensures text { IfOk result (λ read. read.text.items ≡ begun (plan_in change) lines.now) }
-    ensures refuses { IfErr result (RefusesText change.root (begun (plan_in change) lines.now)) }
+    ensures text { IfOk result (λ read. read.text.items ≡ journal_start (plan_in change) lines.now) }
+    ensures refuses { IfErr result (RefusesText change.root (journal_start (plan_in change) lines.now)) }
 {
     let mut rest = lines;
     while let Some((line, after)) = cut(rest, b'\n') {
+        let number = next_line(&change);
         if line == b"end".as_slice() {
             if after.is_empty() {
                 return Ok(change);
             }
-            return Err(VaultFault::BadJournal(next_line(&change) + 1));
+            return Err(VaultFault::BadJournal(number + 1));
         }
         match read_line(alloc, &mut change, line) {
             Ok(()) => rest = after,
-            Err(LineFault::Bad) => return Err(VaultFault::BadJournal(next_line(&change))),
+            Err(LineFault::Bad) => return Err(VaultFault::BadJournal(number)),
             Err(LineFault::NoMemory) => return Err(VaultFault::NoMemory),
         }
     }
@@ -89,7 +90,8 @@ fn read_lines(alloc: Global, mut change: Change, lines: &[u8]) -> Result<Change,
 
 /// The number of the line behind those of the change's steps.
 fn next_line(change: &Change) -> usize
-    ensures { result ≤ 16402 }
+    ensures few { result ≤ 16402 }
+    ensures line { result ≡ length change.now.puts.items + length change.now.drops.items + 2 }
 {
     change.puts.len() + change.drops.len() + 2
 }
@@ -98,7 +100,7 @@ fn next_line(change: &Change) -> usize
 fn read_line(alloc: Global, change: &mut Change, line: &[u8]) -> Result<(), LineFault>
     ensures root { change.new.root ≡ change.old.root }
     ensures step { OnOk result (IsStep (plan_in change.old) line.now (plan_in change.new)) }
-    ensures bad { result ≡ Err LineFault.Bad → (plan : Plan) → IsStep (plan_in change.old) line.now plan → ¬ IsPlan change.old.root plan }
+    ensures bad { result ≡ Err LineFault.Bad → (plan : JournalPlan) → IsStep (plan_in change.old) line.now plan → ¬ IsJournalPlan change.old.root plan }
 {
     if let Some(path) = line.strip_prefix(b"put\t") {
         return read_put(alloc, change, path);
@@ -114,7 +116,7 @@ fn read_put(alloc: Global, change: &mut Change, path: &[u8]) -> Result<(), LineF
     ensures root { change.new.root ≡ change.old.root }
     ensures front { OnOk result (change.old.drops.items ≡ []) }
     ensures step { OnOk result (plan_in change.new ≡ with_put (plan_in change.old) path.now) }
-    ensures bad { result ≡ Err LineFault.Bad → change.old.drops.items ≡ [] → ¬ IsPlan change.old.root (with_put (plan_in change.old) path.now) }
+    ensures bad { result ≡ Err LineFault.Bad → change.old.drops.items ≡ [] → ¬ IsJournalPlan change.old.root (with_put (plan_in change.old) path.now) }
 {
     if !change.drops.is_empty() {
         return Err(LineFault::Bad);
@@ -128,7 +130,7 @@ fn read_put(alloc: Global, change: &mut Change, path: &[u8]) -> Result<(), LineF
 fn read_drop(alloc: Global, change: &mut Change, path: &[u8]) -> Result<(), LineFault>
     ensures root { change.new.root ≡ change.old.root }
     ensures step { OnOk result (plan_in change.new ≡ with_drop (plan_in change.old) path.now) }
-    ensures bad { result ≡ Err LineFault.Bad → ¬ IsPlan change.old.root (with_drop (plan_in change.old) path.now) }
+    ensures bad { result ≡ Err LineFault.Bad → ¬ IsJournalPlan change.old.root (with_drop (plan_in change.old) path.now) }
 {
     let path = path_of(alloc, path)?;
     change.erase(path)?;
@@ -143,13 +145,4 @@ fn path_of(alloc: Global, bytes: &[u8]) -> Result<FilePath, LineFault>
         return Err(LineFault::Bad);
     };
     Ok(FilePath::read(alloc, text)?)
-}
-
-fn as_text(bytes: &[u8]) -> Option<&str>
-    ensures { MatchOption result (¬ IsTrue (is_utf8 bytes.now)) (λ text. (text.now ≡ bytes.now) × IsTrue (is_utf8 bytes.now)) }
-{
-    match str::from_utf8(bytes) {
-        Ok(text) => Some(text),
-        Err(_) => None,
-    }
 }

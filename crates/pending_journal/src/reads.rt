@@ -4,10 +4,9 @@ ghost use Rattle.std.specs.Prelude.{◌≡◌, ◌≤◌, IfOk, Err, length};
 ghost use Rattle.gopass_base.specs.Faults.{HasCause};
 ghost use Rattle.disk_model.specs.Disk.{Rests};
 ghost use Rattle.disk_model.specs.Answers.{Reads, IsWithin};
-ghost use Rattle.disk_model.specs.Listing.{Lists, IsShort};
+ghost use Rattle.disk_model.specs.Listing.{Lists, IsShort, IsAtMost};
 ghost use Rattle.pending_journal.specs.Service.{others, without_service};
-ghost use Rattle.pending_journal.specs.Listed.{IsAtMost};
-ghost use Rattle.pending_journal.specs.Opened.{IsKept};
+ghost use Rattle.pending_journal.specs.Opened.{IsSameVault};
 
 use crate::service::is_service;
 use crate::vault::Vault;
@@ -17,7 +16,7 @@ use mount_table::{DirPath, FilePath};
 impl<D: Disk> Vault<D> {
     /// The file under the path, where it has at most `max` bytes. The vault's own files are absent.
     pub fn read(&mut self, path: &FilePath, max: usize) -> Result<Got, DiskFault>
-        ensures kept { IsKept self.old self.new }
+        ensures kept { IsSameVault self.old self.new }
         ensures rests { D.meaning.tells → Rests (D.meaning.view self.old.disk) (D.meaning.view self.new.disk) }
         ensures got { IfOk result (λ got. D.meaning.tells → Reads (without_service self.old.root (D.meaning.view self.old.disk).files path.now) max got) }
         ensures bound { IfOk result (IsWithin max) }
@@ -32,7 +31,7 @@ impl<D: Disk> Vault<D> {
     /// The paths of all files below the directory but the vault's own, where there are at most
     /// `max`, as `Disk::list` gives them.
     pub fn list(&mut self, dir: &FilePath, max: usize) -> Result<Listed, DiskFault>
-        ensures kept { IsKept self.old self.new }
+        ensures kept { IsSameVault self.old self.new }
         ensures rests { D.meaning.tells → Rests (D.meaning.view self.old.disk) (D.meaning.view self.new.disk) }
         ensures listed { IfOk result (λ listed. D.meaning.tells → Lists (without_service self.old.root (D.meaning.view self.old.disk).files) dir.now max listed) }
         ensures bound { IfOk result (IsShort max) }
@@ -40,13 +39,15 @@ impl<D: Disk> Vault<D> {
     {
         match self.disk.list(dir, max)? {
             Listed::All(paths) => Ok(Listed::All(others(&self.root, paths))),
+            Listed::Many if !self.stuck => Ok(Listed::Many),
             Listed::Many => self.list_all(dir, max),
         }
     }
 
-    /// The same by a listing of all files, where there are more than `max` with the vault's own.
+    /// The same by a listing of all files, where there are more than `max` with the vault's own. A
+    /// vault that is not stuck has none of its own there, so only a stuck one needs it.
     fn list_all(&mut self, dir: &FilePath, max: usize) -> Result<Listed, DiskFault>
-        ensures kept { IsKept self.old self.new }
+        ensures kept { IsSameVault self.old self.new }
         ensures rests { D.meaning.tells → Rests (D.meaning.view self.old.disk) (D.meaning.view self.new.disk) }
         ensures listed { IfOk result (λ listed. D.meaning.tells → Lists (without_service self.old.root (D.meaning.view self.old.disk).files) dir.now max listed) }
         ensures bound { IfOk result (IsShort max) }

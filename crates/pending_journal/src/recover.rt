@@ -5,9 +5,9 @@ ghost use Rattle.gopass_base.specs.Faults.{HasCause};
 ghost use Rattle.disk_model.specs.Disk.{Rests, Only};
 ghost use Rattle.disk_model.specs.Runs.{Runs, Leaves};
 ghost use Rattle.pending_journal.specs.Service.{journal_path, fresh_path, stage_dir};
-ghost use Rattle.pending_journal.specs.Redo.{StandsFor, IsAlike, IsAtRest};
-ghost use Rattle.pending_journal.specs.Carrying.{IsUnseen};
-ghost use Rattle.pending_journal.specs.Recovery.{IsOldOrAlike, IsSameOrAlike, IsUntouched, IsMended, IsCleared, IsSameBut, IsRemoved};
+ghost use Rattle.pending_journal.specs.Redo.{RecoversTo, IsAlike, IsAtRest};
+ghost use Rattle.pending_journal.specs.Carrying.{IsUnseen, IsRemoved};
+ghost use Rattle.pending_journal.specs.Recovery.{IsOldOrAlike, IsSameOrAlike, IsUntouched, IsMended, IsCleared, IsSameBut};
 ghost use Rattle.pending_journal.specs.Faults.{HasBadJournal, RefusesVault};
 
 use crate::change::Change;
@@ -105,7 +105,7 @@ pub(crate) fn recover<D: Disk>(
     ensures root { IfOk result (λ copy. copy ≡ root.now) }
     ensures any_moment { D.meaning.tells → Leaves (IsOldOrAlike root.now (D.meaning.view disk.old)) (D.meaning.view disk.old) (D.meaning.view disk.new) }
     ensures at_rest { OnOk result (D.meaning.tells → IsAtRest root.now (D.meaning.view disk.new)) }
-    ensures stands { OnOk result (D.meaning.tells → StandsFor root.now (D.meaning.view disk.old).files (D.meaning.view disk.new).files) }
+    ensures stands { OnOk result (D.meaning.tells → RecoversTo root.now (D.meaning.view disk.old).files (D.meaning.view disk.new).files) }
     ensures refuses { IfErr result (λ fault. D.meaning.tells → RefusesVault root.now (D.meaning.view disk.old).files fault) }
     ensures untouched { (n : _) → result ≡ Err (VaultFault.BadJournal n) → D.meaning.tells → IsUntouched (D.meaning.view disk.old) (D.meaning.view disk.new) }
     ensures cause { HasCause (D.meaning.faults disk.old) (D.meaning.faults disk.new) (result ≡ Err VaultFault.Disk) }

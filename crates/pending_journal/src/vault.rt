@@ -2,7 +2,7 @@
 
 ghost use Rattle.std.specs.Prelude.{◌≡◌, ◌≤◌, ◌↔◌, ℕ, is_err, IsTrue, IsFalse, OnOk, OnErr, Err};
 ghost use Rattle.gopass_base.specs.Faults.{HasCause, counted};
-ghost use Rattle.disk_model.specs.Disk.{Rests, Stands};
+ghost use Rattle.disk_model.specs.Disk.{Rests, IsDurable};
 ghost use Rattle.disk_model.specs.Runs.{Leaves};
 ghost use Rattle.pending_journal.specs.Redo.{IsAtRest, IsBeforeOrAfter};
 ghost use Rattle.pending_journal.specs.Change.{changed};
@@ -68,7 +68,7 @@ impl<D: Disk> Vault<D> {
     /// `NoMemory` the vault is stuck and answers `Stuck`: its disk is to be opened again.
     pub fn commit(&mut self, change: &Change) -> Result<(), CommitFault>
         requires { change.now.root ≡ self.old.root }
-        ensures made { OnOk result (D.meaning.tells → Stands (changed change.now (D.meaning.view self.old.disk).files) (D.meaning.view self.new.disk)) }
+        ensures made { OnOk result (D.meaning.tells → IsDurable (changed change.now (D.meaning.view self.old.disk).files) (D.meaning.view self.new.disk)) }
         ensures any_moment { IsFalse self.old.stuck → D.meaning.tells
             → Leaves (IsBeforeOrAfter self.old.root (D.meaning.view self.old.disk).files (changed change.now (D.meaning.view self.old.disk).files)) (D.meaning.view self.old.disk) (D.meaning.view self.new.disk) }
         ensures stuck_stays { IsTrue self.old.stuck → self.new.disk ≡ self.old.disk }

@@ -1,8 +1,7 @@
-use Rattle.std.proofs.Common.{None, OnOk, ◌∙◌, subst}
+use Rattle.std.proofs.Common.{None, subst}
 use Rattle.disk_model.specs.Files.{Files, put}
-use Rattle.disk_model.specs.Disk.{View, Stands}
-use Rattle.disk_model.specs.Runs.{Leaves}
-use Rattle.pending_journal.specs.Redo.{IsAtRest, IsBeforeOrAfter}
+use Rattle.disk_model.specs.Disk.{IsDurable}
+use Rattle.pending_journal.specs.Redo.{IsAtRest}
 use Rattle.pending_journal.specs.Change.{changed}
 use Rattle.pending_journal.proofs.CommitLemmas.{after_prepare, after_seal, after_settle, after_finish, is_changed, rests_from, on_ok_then}
 use Rattle.pending_journal.proofs.commit.carry_out.Goals as goal
@@ -57,7 +56,7 @@ returns-clause-any_moment g c told =
 pub returns-clause-made : goal.returns-clause-made
 returns-clause-made g c = on_ok_then c.finish.result c.finish.ensures.ended (made g c)
   where
-    made : (g : _) (c : goal.After-finish g) → (g.D.Disk.meaning.tells → Stands (put (g.D.Disk.meaning.view c.settle.new.disk).files c.args.change.now.journal None) (g.D.Disk.meaning.view c.finish.new.disk)) → g.D.Disk.meaning.tells → Stands (changed c.args.change.now (g.D.Disk.meaning.view c.args.disk.now).files) (g.D.Disk.meaning.view c.finish.new.disk)
+    made : (g : _) (c : goal.After-finish g) → (g.D.Disk.meaning.tells → IsDurable (put (g.D.Disk.meaning.view c.settle.new.disk).files c.args.change.now.journal None) (g.D.Disk.meaning.view c.finish.new.disk)) → g.D.Disk.meaning.tells → IsDurable (changed c.args.change.now (g.D.Disk.meaning.view c.args.disk.now).files) (g.D.Disk.meaning.view c.finish.new.disk)
     made g c ended told =
         let root = c.args.change.now.root in
         let v0 = g.D.Disk.meaning.view c.args.disk.now in
@@ -66,12 +65,12 @@ returns-clause-made g c = on_ok_then c.finish.result c.finish.ensures.ended (mad
         let v3 = g.D.Disk.meaning.view c.settle.new.disk in
         let is = is_changed root c.args.change.now c.args.change.now.built v0 (c.requires.rests told) v1 (c.in_ok-prepare.ensures.ready told) v2 (c.in_ok-seal.ensures.sealed told) v3
         (g.met.D.Disk.sound c.settle.new.disk told) (c.settle.ensures.runs told) (c.in_ok-settle.ensures.carried told) in
-        subst (λ (f : Files). Stands f (g.D.Disk.meaning.view c.finish.new.disk)) is (ended told)
+        subst (λ (f : Files). IsDurable f (g.D.Disk.meaning.view c.finish.new.disk)) is (ended told)
 
 pub returns-clause-at_rest : goal.returns-clause-at_rest
 returns-clause-at_rest g c = on_ok_then c.finish.result c.finish.ensures.ended (rests g c)
   where
-    rests : (g : _) (c : goal.After-finish g) → (g.D.Disk.meaning.tells → Stands (put (g.D.Disk.meaning.view c.settle.new.disk).files c.args.change.now.journal None) (g.D.Disk.meaning.view c.finish.new.disk)) → g.D.Disk.meaning.tells → IsAtRest c.args.change.now.root (g.D.Disk.meaning.view c.finish.new.disk)
+    rests : (g : _) (c : goal.After-finish g) → (g.D.Disk.meaning.tells → IsDurable (put (g.D.Disk.meaning.view c.settle.new.disk).files c.args.change.now.journal None) (g.D.Disk.meaning.view c.finish.new.disk)) → g.D.Disk.meaning.tells → IsAtRest c.args.change.now.root (g.D.Disk.meaning.view c.finish.new.disk)
     rests g c ended told =
         let root = c.args.change.now.root in
         let v0 = g.D.Disk.meaning.view c.args.disk.now in
@@ -80,4 +79,4 @@ returns-clause-at_rest g c = on_ok_then c.finish.result c.finish.ensures.ended (
         let v3 = g.D.Disk.meaning.view c.settle.new.disk in
         let is = is_changed root c.args.change.now c.args.change.now.built v0 (c.requires.rests told) v1 (c.in_ok-prepare.ensures.ready told) v2 (c.in_ok-seal.ensures.sealed told) v3
         (g.met.D.Disk.sound c.settle.new.disk told) (c.settle.ensures.runs told) (c.in_ok-settle.ensures.carried told) in
-        rests_from root c.args.change.now c.args.change.now.built v0.files (g.D.Disk.meaning.view c.finish.new.disk) (c.requires.rests told).none (subst (λ (f : Files). Stands f (g.D.Disk.meaning.view c.finish.new.disk)) is (ended told))
+        rests_from root c.args.change.now c.args.change.now.built v0.files (g.D.Disk.meaning.view c.finish.new.disk) (c.requires.rests told).none (subst (λ (f : Files). IsDurable f (g.D.Disk.meaning.view c.finish.new.disk)) is (ended told))

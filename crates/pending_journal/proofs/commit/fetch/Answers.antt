@@ -1,4 +1,4 @@
-use Rattle.std.proofs.Common.{◌≡◌, ◌<◌, List, length, get_or, sym, ◌∙◌, ap, arith}
+use Rattle.std.proofs.Common.{◌≡◌, ◌<◌, List, length, get_or, ◌∙◌, ap, arith}
 use Rattle.pending_journal.specs.declared.put.Put.{Put}
 use Rattle.pending_journal.proofs.TurnLemmas.{fetch_runs, fetch_files}
 use Rattle.pending_journal.proofs.commit.fetch.Goals as goal

@@ -1,5 +1,5 @@
 use Rattle.std.proofs.Common.{◌∙◌, ap}
-use Rattle.disk_model.specs.Files.{Files, moved, Moves}
+use Rattle.disk_model.specs.Files.{moved, Moves}
 use Rattle.pending_journal.specs.Carrying.{IsEither}
 use Rattle.pending_journal.proofs.CommitLemmas.{either_step, synced, stands_from, on_ok_then}
 use Rattle.pending_journal.proofs.commit.seal.Goals as goal

@@ -1,4 +1,4 @@
-use Rattle.std.proofs.Common.{◌≡◌, ◌<◌, List, length, get_or, Some, sym, ◌∙◌, ap, arith}
+use Rattle.std.proofs.Common.{◌≡◌, ◌<◌, List, length, get_or, Some, ◌∙◌, ap, arith}
 use Rattle.disk_model.specs.Files.{put}
 use Rattle.pending_journal.specs.declared.put.Put.{Put}
 use Rattle.pending_journal.proofs.TurnLemmas.{stage_runs, stage_files}

@@ -4,11 +4,11 @@ use Rattle.mount_table.specs.Paths.{path_in}
 use Rattle.pending_journal.proofs.StageLemmas.{fresh_good, stage_dir_good}
 use Rattle.pending_journal.proofs.own.own_paths.Goals as goal
 
-pub path_at-requires : goal.path_at-requires
-path_at-requires c = fresh_good c.args.root.now
+pub file_at-requires : goal.file_at-requires
+file_at-requires c = fresh_good c.args.root.now
 
-pub path_at-requires-2 : goal.path_at-requires-2
-path_at-requires-2 c = stage_dir_good c.args.root.now
+pub file_at-requires-2 : goal.file_at-requires-2
+file_at-requires-2 c = stage_dir_good c.args.root.now
 
 pub invariant_of-result : goal.invariant_of-result
 invariant_of-result c =
@@ -16,7 +16,7 @@ invariant_of-result c =
     record {
       own = record {
         journal_is = c.in_ok-service_file.ensures ∙ ap (λ (root : Text). path_in root (codes ".gopass-journal")) same;
-        fresh_is = c.in_ok-path_at.ensures ∙ ap (λ (root : Text). path_in root (codes ".gopass-journal.new")) same;
-        stage_is = c.in_ok-path_at-2.ensures ∙ ap (λ (root : Text). path_in root (codes ".gopass-stage")) same;
+        fresh_is = c.in_ok-file_at.ensures ∙ ap (λ (root : Text). path_in root (codes ".gopass-journal.new")) same;
+        stage_is = c.in_ok-file_at-2.ensures ∙ ap (λ (root : Text). path_in root (codes ".gopass-stage")) same;
       };
     }

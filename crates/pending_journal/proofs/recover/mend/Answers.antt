@@ -1,12 +1,10 @@
-use Rattle.std.proofs.Common.{◌≡◌, Option, None, Some, subst, sym}
+use Rattle.std.proofs.Common.{◌≡◌, Option, None, Some, subst}
 use Rattle.std.specs.Prelude.{MatchOption}
 use Rattle.gopass_base.specs.Text.{Text}
-use Rattle.disk_model.specs.Disk.{View}
 use Rattle.disk_model.specs.Runs.{Leaves}
 use Rattle.pending_journal.specs.Redo.{IsAlike}
-use Rattle.pending_journal.specs.Recovery.{IsMended}
 use Rattle.pending_journal.specs.declared.change.Change.{Change}
-use Rattle.pending_journal.proofs.RecoverLemmas.{redo_alike, redo_mended}
+use Rattle.pending_journal.proofs.RecoverLemmas.{redo_alike}
 use Rattle.pending_journal.proofs.recover.mend.Goals as goal
 
 pub returns-in_ok-redo-in-Some-clause-alike : goal.returns-in_ok-redo-in-Some-clause-alike

@@ -1,4 +1,3 @@
-use Rattle.std.proofs.Common.{◌∙◌}
 use Rattle.pending_journal.proofs.CommitLemmas.{on_ok_then}
 use Rattle.pending_journal.proofs.RecoverLemmas.{settled_alike, finished_alike, finished_mended}
 use Rattle.pending_journal.proofs.recover.redo.Goals as goal

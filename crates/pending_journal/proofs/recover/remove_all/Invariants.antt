@@ -1,5 +1,6 @@
 use Rattle.std.proofs.Common.{◌≤◌}
-use Rattle.pending_journal.specs.Recovery.{IsSameBut, IsRemoved}
+use Rattle.pending_journal.specs.Carrying.{IsRemoved}
+use Rattle.pending_journal.specs.Recovery.{IsSameBut}
 use Rattle.disk_model.specs.Runs.{Runs}
 use Rattle.pending_journal.proofs.recover.remove_all.Given as goal
 

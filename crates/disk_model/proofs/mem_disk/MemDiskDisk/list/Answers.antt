@@ -1,7 +1,7 @@
 use Rattle.std.proofs.Common.{◌≡◌, ap, sym, subst, ◌∙◌}
 use Rattle.disk_model.specs.Files.{Files}
 use Rattle.disk_model.specs.Entries.{Entries, entries_of}
-use Rattle.disk_model.specs.Listing.{Lists, ListsEntries}
+use Rattle.disk_model.specs.Listing.{Lists, IsAtMost, paths_in}
 use Rattle.disk_model.specs.Memory.{MemoryDisk}
 use Rattle.disk_model.proofs.ListingLemmas.{lists_of}
 use Rattle.disk_model.proofs.MemoryLemmas.{view_files}
@@ -13,4 +13,4 @@ returns-clause-listed c told =
     let listed = c.in_ok-list.field-0 in
     let same : entries_of c.deref.result.now ≡ old.entries = ap entries_of c.deref.ensures.value ∙ ap (λ (d : MemoryDisk). d.entries) (c.self.view_is ∙ c.rest.ensures.rested) in
     subst (λ (files : Files). Lists files c.args.dir.now c.args.max listed) (sym (view_files old c.rest.ensures.recorded))
-    (lists_of old.entries c.args.dir.now c.args.max listed c.rest.ensures.recorded.rising (subst (λ (es : Entries). ListsEntries es c.args.dir.now c.args.max listed) same c.in_ok-list.ensures))
+    (lists_of old.entries c.args.dir.now c.args.max listed c.rest.ensures.recorded.rising (subst (λ (es : Entries). IsAtMost (paths_in c.args.dir.now es) c.args.max listed) same c.in_ok-list.ensures))

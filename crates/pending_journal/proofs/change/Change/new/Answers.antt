@@ -1,5 +1,5 @@
 use Rattle.pending_journal.proofs.StageLemmas.{fresh_good}
 use Rattle.pending_journal.proofs.change.Change.new.Goals as goal
 
-pub path_at-requires : goal.path_at-requires
-path_at-requires c = fresh_good c.args.root.now
+pub file_at-requires : goal.file_at-requires
+file_at-requires c = fresh_good c.args.root.now
