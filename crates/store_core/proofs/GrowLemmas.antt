@@ -16,18 +16,18 @@ use Rattle.mount_table.specs.declared.mounts.Row.{Row}
 use Rattle.disk_model.specs.Files.{Files, put}
 use Rattle.recipient_files.specs.Ids.{is_among}
 use Rattle.recipient_files.proofs.SetLemmas.{is_among_tells}
-use Rattle.store_core.specs.declared.opening.Found.{Found}
-use Rattle.store_core.specs.Places.{secret_path}
-use Rattle.store_core.specs.Found.{GivesRule, GivesTemplate, GivesStrange, GivesShadowed}
-use Rattle.store_core.specs.Survey.{IsCountOf, IsOfFiles, IsSeen, IsSurvey}
-use Rattle.store_core.specs.Order.{IsRising}
-use Rattle.store_core.specs.RuleFiles.{AreRules}
-use Rattle.store_core.specs.State.{AreMounts, mounts_path}
-use Rattle.store_core.specs.Opening.{IsFound, pending_path}
+use Rattle.store_state.specs.declared.opening.Found.{Found}
+use Rattle.store_state.specs.Places.{secret_path}
+use Rattle.store_state.specs.Found.{GivesRule, GivesTemplate, GivesStrange, GivesShadowed}
+use Rattle.store_state.specs.Survey.{IsCountOf, IsOfFiles, IsSeen, IsSurvey}
+use Rattle.gopass_base.specs.Order.{IsRising}
+use Rattle.store_state.specs.RuleFiles.{AreRules}
+use Rattle.store_state.specs.State.{AreMounts, mounts_path, pending_path}
+use Rattle.store_state.specs.Opening.{IsFound}
 use Rattle.store_core.specs.Insert.{one_more}
 use Rattle.store_core.specs.Grown.{IsGrownBy}
-use Rattle.store_core.proofs.NameLemmas.{names_found}
-use Rattle.store_core.proofs.PlaceLemmas.{IsPlace, inserted_has, inserted_length, inserted_rising, place_by_search, place_is_new}
+use Rattle.store_state.proofs.NameLemmas.{names_found}
+use Rattle.store_state.proofs.PlaceLemmas.{IsPlace, inserted_has, inserted_length, inserted_rising, place_by_search, place_is_new}
 use Rattle.store_core.proofs.PutLemmas.{counts_grow, counts_stay, names_list, no_mounts_file, no_pending_file, other_list, same_rules, secret_in_tree, stays}
 
 module _ (root : Text) (files next_files : Files) (found next : Found) (name bytes : Text) (is : IsFound root files found) (good : IsName name) (grown : next_files ≡ put files (secret_path found.mounts name) (Some bytes)) (more : IsGrownBy found next name) where

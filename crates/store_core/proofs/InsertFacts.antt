@@ -1,13 +1,10 @@
 -- What the tests of `insert` say of the state, and what a store has once a secret is put.
-use Rattle.std.proofs.Common.{◌≡◌, ◌≢◌, inl, inr, ℕ, ◌+◌, ◌<◌, ◌≤◌, Bool, true, false, not, ◌&&◌, nat_lt, nat_le, cond, if◌then◌else◌, List, [], ◌∷◌, drop, length, insert, Option, None, Some, Result, Ok, Err, Vec, Global, refl, sym, ◌∙◌, ap, subst, arith, bytes_eq, length-set}
+use Rattle.std.proofs.Common.{◌≡◌, ◌≢◌, inl, inr, ℕ, ◌+◌, ◌<◌, ◌≤◌, Bool, true, false, not, ◌&&◌, cond, if◌then◌else◌, List, [], ◌∷◌, drop, length, insert, Option, None, Some, Result, Ok, Err, Vec, Global, refl, sym, ◌∙◌, ap, subst, arith, bytes_eq, length-set}
 use Rattle.std.specs.Prelude.{◌↔◌, IsTrue, IsFalse, Contains, is_some, option_map, slice_index_or}
-use Rattle.std.specs.Prelude.{map as each}
 use Rattle.std.specs.FinMap as map
 use Rattle.std.proofs.Math.Logic.{∥∥₁_map}
 use Rattle.std.proofs.Math.Path.{fun_ext}
-use Rattle.std.proofs.lemmas.Bool.{le-leb, lt-leb, false≢true}
-use Rattle.std.proofs.lemmas.Bool.Decides.{nat_tests}
-use Rattle.std.proofs.lemmas.Map.Entries.{length-keys_of}
+use Rattle.std.proofs.lemmas.Bool.{false≢true}
 use Rattle.gopass_base.specs.Text.{Text}
 use Rattle.gopass_base.specs.Faults.{Rose}
 use Rattle.mount_table.specs.Names.{IsName}
@@ -28,66 +25,32 @@ use Rattle.pending_journal.specs.declared.vault.CommitFault.TheVariants.{Disk as
 use Rattle.path_rules.specs.Governing.{governing_ids}
 use Rattle.recipient_files.specs.Ids.{Ids}
 use Rattle.cipher_port.specs.Tool.{Opens, Ring}
-use Rattle.store_core.specs.declared.fault.Limit.{Limit}
-use Rattle.store_core.specs.declared.fault.Limit.TheVariants.{Secrets, Body, Files as TooManyFiles}
+use Rattle.store_state.specs.declared.fault.Limit.{Limit}
 use Rattle.store_core.specs.declared.grown.Grown.{Grown}
-use Rattle.store_core.specs.declared.opening.Found.{Found}
+use Rattle.store_state.specs.declared.opening.Found.{Found}
 use Rattle.store_core.specs.declared.refusal.Refusal.{Refusal}
 use Rattle.store_core.specs.declared.refusal.Refusal.TheVariants.{NotFound, IsFolder, Exists, NoRule, Full, UnknownId, NoKey, NotSealed, Tool, Disk, NoMemory}
 use Rattle.store_core.specs.declared.store.Store.{Store}
 use Rattle.store_core.specs.Does.{Keeps}
 use Rattle.store_core.specs.Moment.{Moment, Tools, moment_of}
-use Rattle.store_core.specs.Opening.{IsFound}
-use Rattle.store_core.specs.Places.{secret_path}
-use Rattle.store_core.specs.State.{State, Cell, AreSizes, StandsFor, cell_of}
-use Rattle.store_core.specs.Survey.{IsCountOf}
+use Rattle.store_state.specs.Opening.{IsFound}
+use Rattle.store_state.specs.Places.{secret_path}
+use Rattle.store_state.specs.State.{State, Cell, AreSizes, StandsFor, cell_of}
+use Rattle.store_state.specs.Survey.{IsCountOf}
 use Rattle.store_core.specs.Refusals.{refusal_said}
-use Rattle.store_core.specs.Insert.{plan_insert, is_there, full_for, passed_by, with_cell, one_more}
+use Rattle.store_core.specs.Insert.{plan_insert, has_secret, full_for, passed_by, with_cell, one_more}
 use Rattle.store_core.specs.Inserting.{refusal_by_commit, IsUnruled, limit_by, MayPut, IsTested, SealsBody, IsGrownFor, TakesOver, IsPutOf}
 use Rattle.store_core.specs.Performs.{Performs}
-use Rattle.store_core.proofs.AgreeLemmas.{mounts_agree, keys_agree, rules_agree, sizes_agree, row_agrees, table_agrees, among_keys}
+use Rattle.store_state.proofs.KeyLemmas.{length-keys}
+use Rattle.store_state.proofs.AgreeLemmas.{mounts_agree, keys_agree, rules_agree, sizes_agree, row_agrees, table_agrees, among_keys}
 use Rattle.store_core.proofs.GrowLemmas.{grown_is_found, grown_old, grown_new}
-use Rattle.store_core.proofs.PlaceLemmas.{place_by_search, place_is_new}
+use Rattle.store_state.proofs.PlaceLemmas.{place_by_search, place_is_new}
 use Rattle.store_core.proofs.PutLemmas.{secret_in_tree, counts_stay, counts_grow}
 use Rattle.store_core.proofs.PerformLemmas.{Still}
+use Rattle.store_core.proofs.RoomLemmas.{room_by}
 use Rattle.store_core.proofs.InsertLemmas.{there_by_keys, insert_no_rule, insert_no_memory, insert_in_the_way, insert_full, insert_failed, insert_unknown, insert_no_memory_then}
 
--- ---- no limit is passed
-
--- what that no limit is passed says
-pub record HasRoom (there : Bool) (secrets files : ℕ) : Type 0 where
-  pub secrets_few : there ≡ false → secrets < 8192
-  pub files_few : there ≡ false → files < 40000
-
-no_some : {X : Type 0} {x : X} → Some x ≡ None → ⊥
-no_some e = cc
-
-pub room_by : (body : Text) (there : Bool) (secrets files : ℕ) → limit_by body there secrets files ≡ None → HasRoom there secrets files
-room_by body there secrets files is = elim (nat_lt 32768 (length body)) as (λ b. (if b then Some Body else if there then None else if nat_le 8192 secrets then Some Secrets else if nat_le 40000 files then Some TooManyFiles else None) ≡ None → HasRoom there secrets files) [
-  | true ↦ λ e. absurd (no_some e)
-  | false ↦ λ e. by there e
-] is
-  where
-    none_left : (secrets files : ℕ) → (if nat_le 8192 secrets then Some Secrets else if nat_le 40000 files then Some TooManyFiles else None) ≡ None → (secrets < 8192) × (files < 40000)
-    none_left secrets files e = both (nat_le 8192 secrets) (nat_le 40000 files) refl refl e
-      where
-        both : (a b : Bool) → nat_le 8192 secrets ≡ a → nat_le 40000 files ≡ b → (if a then Some Secrets else if b then Some TooManyFiles else None) ≡ None → (secrets < 8192) × (files < 40000)
-        both true b p q e = absurd (no_some e)
-        both false true p q e = absurd (no_some e)
-        both false false p q e = (grind (arith, nat_tests), grind (arith, nat_tests))
-
-    by : (there : Bool) → (if there then None else if nat_le 8192 secrets then Some Secrets else if nat_le 40000 files then Some TooManyFiles else None) ≡ None → HasRoom there secrets files
-    by true e = record { secrets_few = λ t. absurd (false≢true (sym t)); files_few = λ t. absurd (false≢true (sym t)) }
-    by false e = (let left = none_left secrets files e in record { secrets_few = λ t. left.0; files_few = λ t. left.1 })
-
 -- ---- what was tested is so in the state
-
-length-firsts : (es : List (Text × Cell)) → length (each (λ (e : Text × Cell). e.0) es) ≡ length es
-length-firsts [] = refl
-length-firsts (e ∷ es) = omega (arith, length-firsts es)
-
-length-rows : (state : State) → map.len state.rows ≡ length (map.keys state.rows)
-length-rows state = map.len-entries state.rows ∙ sym (length-firsts (map.entries state.rows))
 
 module _ (opens : Opens) (root : Text) (files : Files) (found : Found) (state : State) (is : ∥ IsFound root files found ∥₁) (stands : StandsFor opens root files state) (name : Text) where
   pub ids_are : governing_ids state.rules state.mounts name ≡ governing_ids found.rules found.mounts name
@@ -97,10 +60,10 @@ module _ (opens : Opens) (root : Text) (files : Files) (found : Found) (state : 
       λ i. governing_ids (rules i) (mounts i) name
 
   module _ {T : Type 0} (body : Text) (force : Bool) (r : Result T Refusal) (tested : IsTested found name body force r) where
-    pub there_is : is_there state name ≡ tested.there
+    pub there_is : has_secret state name ≡ tested.there
     there_is = there_by_keys state name tested.there (among_keys state.rows found.seen.names.items name tested.there (keys_agree opens root files found state is stands) tested.among)
 
-    pub way_is : (not force && is_there state name) ≡ (not force && tested.there)
+    pub way_is : (not force && has_secret state name) ≡ (not force && tested.there)
     way_is = ap (λ b. not force && b) there_is
 
     row_is : tested.row ≡ mount_of found.mounts name
@@ -113,7 +76,7 @@ module _ (opens : Opens) (root : Text) (files : Files) (found : Found) (state : 
         (λ i. slice_index_or (sizes i) (mount_of (mounts i) name) 0) ∙ ap (λ k. slice_index_or found.counts.items k 0) (sym row_is)
 
     secrets_are : map.len state.rows ≡ length found.seen.names.items
-    secrets_are = length-rows state ∙ ap length (keys_agree opens root files found state is stands)
+    secrets_are = length-keys state.rows ∙ ap length (keys_agree opens root files found state is stands)
 
     pub limit_is : passed_by state name body ≡ limit_by body tested.there (length found.seen.names.items) (slice_index_or found.counts.items tested.row 0)
     limit_is = λ i. limit_by body (there_is i) (secrets_are i) (size_is i)
@@ -136,7 +99,7 @@ module _ (opens : Opens) (root : Text) (ring : Ring) (name body : Text) (force :
   insert_unruled ids is Disk none few = absurd none
 
   module _ (ids : Ids) (ruled : governing_ids state.rules state.mounts name ≡ Some ids) where
-    pub insert_tested : (there : Bool) (limit : Option Limit) → (not force && is_there state name) ≡ (not force && there) → passed_by state name body ≡ limit → (r : Refusal) → MayPut force there limit {T = Unit {0}} (Err r) → new.calls ≤ old.calls
+    pub insert_tested : (there : Bool) (limit : Option Limit) → (not force && has_secret state name) ≡ (not force && there) → passed_by state name body ≡ limit → (r : Refusal) → MayPut force there limit {T = Unit {0}} (Err r) → new.calls ≤ old.calls
         → Performs opens root (plan_insert ring name body force state) state old new (refusal_said name r)
     insert_tested there limit way passed Exists may few = insert_in_the_way opens root ring name body force state old new stands still ids ruled (way ∙ may) few
     insert_tested there limit way passed (Full kind) may few = insert_full opens root ring name body force state old new stands still ids ruled (way ∙ may.0) kind (passed ∙ may.1) few
@@ -150,7 +113,7 @@ module _ (opens : Opens) (root : Text) (ring : Ring) (name body : Text) (force :
     insert_tested there limit way passed (Tool other) may few = absurd may
     insert_tested there limit way passed Disk may few = absurd may
 
-    module _ (fresh : (not force && is_there state name) ≡ false) (room : passed_by state name body ≡ None) (few : new.calls ≤ old.calls + 1) where
+    module _ (fresh : (not force && has_secret state name) ≡ false) (room : passed_by state name body ≡ None) (few : new.calls ≤ old.calls + 1) where
       pub insert_unsealed : (r : Refusal) → SealsBody {A = Global} opens ring ids name body (Err r) → ((other : Text) → r ≡ Tool other → Rose old.faults.tools new.faults.tools)
           → Performs opens root (plan_insert ring name body force state) state old new (refusal_said name r)
       insert_unsealed (UnknownId id) (place, first, is) rose = insert_unknown opens root ring name body force state old new stands still ids ruled fresh room few place id first is
@@ -188,18 +151,18 @@ no_file_by opens None e bytes is = cc
 no_file_by opens (Some bytes) e other is = false≢true (sym e)
 
 pub sizes_inserted : (opens : Opens) (root : Text) (files after : Files) (state : State) (name bytes : Text) (cell : Cell) → StandsFor opens root files state → IsTable root state.mounts → IsName name
-    → after ≡ put files (secret_path state.mounts name) (Some bytes) → (is_there state name ≡ false → slice_index_or state.sizes (mount_of state.mounts name) 0 < 40000)
+    → after ≡ put files (secret_path state.mounts name) (Some bytes) → (has_secret state name ≡ false → slice_index_or state.sizes (mount_of state.mounts name) 0 < 40000)
     → AreSizes root after state.mounts (with_cell name cell state).sizes
-sizes_inserted opens root files after state name bytes cell stands table good grown room = elim (is_there state name) as (λ b. is_there state name ≡ b → AreSizes root after state.mounts (if b then state.sizes else one_more (mount_of state.mounts name) state.sizes)) [
+sizes_inserted opens root files after state name bytes cell stands table good grown room = elim (has_secret state name) as (λ b. has_secret state name ≡ b → AreSizes root after state.mounts (if b then state.sizes else one_more (mount_of state.mounts name) state.sizes)) [
   | true ↦ λ e. record {
     as_many = stands.sizes_are.as_many;
     each = counts_stay root files after state.mounts name bytes table good grown state.sizes state.sizes
-        (let there = file_by opens (files (secret_path state.mounts name)) (sym (ap is_some (stands.row name good)) ∙ e) in (there.0, secret_in_tree root files state.mounts name table good ∙ there.1)) refl stands.sizes_are.each;
+        (let there = file_by opens (files (secret_path state.mounts name)) (sym (ap is_some (stands.secrets.row name good)) ∙ e) in (there.0, secret_in_tree root files state.mounts name table good ∙ there.1)) refl stands.sizes_are.each;
   }
   | false ↦ λ e. record {
     as_many = length-set state.sizes (mount_of state.mounts name) (slice_index_or state.sizes (mount_of state.mounts name) 0 + 1) ∙ stands.sizes_are.as_many;
     each = counts_grow root files after state.mounts name bytes table good grown state.sizes (one_more (mount_of state.mounts name) state.sizes)
-        (λ (other, is). no_file_by opens (files (secret_path state.mounts name)) (sym (ap is_some (stands.row name good)) ∙ e) other (sym (secret_in_tree root files state.mounts name table good) ∙ is))
+        (λ (other, is). no_file_by opens (files (secret_path state.mounts name)) (sym (ap is_some (stands.secrets.row name good)) ∙ e) other (sym (secret_in_tree root files state.mounts name table good) ∙ is))
         stands.sizes_are.as_many refl (room e) stands.sizes_are.each;
   }
 ] refl

@@ -4,12 +4,13 @@ use Rattle.std.specs.Prelude.{Result, Err, ◌↔◌, Contains, IsTrue, IsFalse,
 use Rattle.std.specs.FinMap as map
 use Rattle.std.specs.Ordering.{nat_cmp, eq_by_cmp}
 use Rattle.std.specs.Cmp.Lexicographic.{slice_cmp}
-use Rattle.std.proofs.lemmas.Bool.{false≢true}
+use Rattle.std.proofs.lemmas.Bool.{false_from_ne_true, false≢true}
 use Rattle.std.proofs.lemmas.Cmp.{nat_list_cmp_total}
-use Rattle.std.proofs.lemmas.List.{append_assoc, append_cancel_left}
+use Rattle.std.proofs.lemmas.List.{append_cancel_left}
 use Rattle.std.proofs.lemmas.Map.Lookups.{exact_bytes}
 use Rattle.std.proofs.lemmas.Slice.Eq.{bytes_eq-Decides}
 use Rattle.gopass_base.specs.Text.{Text}
+use Rattle.gopass_base.specs.Order.{TextMap}
 use Rattle.gopass_base.specs.Faults.{Rose, counted}
 use Rattle.mount_table.specs.Names.{IsName}
 use Rattle.mount_table.specs.Paths.{path_in}
@@ -18,7 +19,7 @@ use Rattle.mount_table.specs.MountOf.{mount_of}
 use Rattle.mount_table.specs.declared.mounts.Row.{Row}
 use Rattle.mount_table.proofs.MountOfLemmas.{mount_computed}
 use Rattle.disk_model.specs.Files.{Files, put}
-use Rattle.disk_model.specs.Disk.{Stands}
+use Rattle.disk_model.specs.Disk.{IsDurable}
 use Rattle.disk_model.specs.Runs.{Leaves}
 use Rattle.disk_model.specs.declared.disk.DiskFault.{DiskFault}
 use Rattle.disk_model.specs.declared.disk.DiskFault.TheVariants.{Failed as DiskFailed, NoMemory as DiskNoMemory}
@@ -27,30 +28,32 @@ use Rattle.disk_model.proofs.RunLemmas.{leaves_then, leaves_weaken}
 use Rattle.pending_journal.specs.Service.{is_service}
 use Rattle.pending_journal.specs.declared.vault.CommitFault.{CommitFault}
 use Rattle.pending_journal.specs.declared.vault.CommitFault.TheVariants.{Disk as CommitDisk, Stuck, NoMemory as CommitNoMemory}
-use Rattle.pending_journal.specs.Redo.{IsBeforeOrAfter, StandsFor as StandsForFiles}
+use Rattle.pending_journal.specs.Redo.{IsBeforeOrAfter, RecoversTo}
 use Rattle.recipient_files.specs.Ids.{Ids}
 use Rattle.cipher_port.specs.Tool.{Content, Opens, Ring, made_of, first_unknown}
 use Rattle.path_rules.specs.RuleMap.{rule_at}
 use Rattle.path_rules.specs.Governing.{governing_ids}
-use Rattle.store_core.specs.declared.fault.Limit.{Limit}
+use Rattle.store_state.specs.declared.fault.Limit.{Limit}
 use Rattle.store_core.specs.declared.refusal.Refusal.{Refusal}
 use Rattle.store_core.specs.declared.refusal.Refusal.TheVariants.{Exists, NoRule, Full, UnknownId, Tool, Disk, NoMemory}
-use Rattle.store_core.specs.Places.{IsSecretAt, dir_of, rest_of, rule_file, rule_path, secret_path, template_file, template_path}
-use Rattle.store_core.specs.RuleFiles.{IsRuleOf}
-use Rattle.store_core.specs.State.{Sealed, State, TextMap, AreMounts, AreSizes, IsOwned, StandsFor, cell_of, cell_with, is_outside, mounts_path}
+use Rattle.store_state.specs.Places.{IsSecretAt, rest_of, rule_file, rule_path, secret_path, template_file, template_path}
+use Rattle.store_state.specs.RuleFiles.{IsRuleOf}
+use Rattle.store_state.specs.State.{Sealed, State, AreMounts, AreSizes, IsPlaced, StandsFor, cell_of, cell_with, is_outside, mounts_path, pending_path}
 use Rattle.store_core.specs.Said.{Said, Plan, granted, refused, answers, answers_by_tool}
 use Rattle.store_core.specs.Texts.{is_there_already, not_known, tool_failed}
 use Rattle.store_core.specs.Events.{Events, calm, refusing, Cause, TheDisk, Memory}
 use Rattle.store_core.specs.Moment.{Moment}
 use Rattle.store_core.specs.Performs.{IsTied, Goes, LeftFor, IsPassed, Performs, stop_said}
 use Rattle.store_core.specs.Refusals.{refusal_said, refusal_by_disk}
-use Rattle.store_core.specs.Insert.{is_there, with_cell, passed_by, insert_sealed, insert_within, insert_ruled, plan_insert}
-use Rattle.store_core.proofs.OneKind.{last_is, one_secret}
-use Rattle.store_core.proofs.PathLemmas.{secret_at_path}
-use Rattle.store_core.proofs.NameLemmas.{false_by, no_service, one_dir}
-use Rattle.store_core.proofs.TableLemmas.{equal, ties}
-use Rattle.store_core.proofs.FolderFileLemmas.{no_secret}
-use Rattle.store_core.proofs.AgreeLemmas.{row_missing, row_there}
+use Rattle.store_core.specs.Insert.{has_secret, with_cell, passed_by, insert_sealed, insert_within, insert_ruled, plan_insert}
+use Rattle.store_state.proofs.OneKind.{one_secret}
+use Rattle.store_state.proofs.PathLemmas.{secret_at_path}
+use Rattle.store_state.proofs.NameLemmas.{no_service, one_dir}
+use Rattle.store_state.proofs.TableLemmas.{equal, ties}
+use Rattle.store_state.proofs.FolderFileLemmas.{no_secret}
+use Rattle.store_state.proofs.KeyLemmas.{row_missing, row_there}
+use Rattle.store_core.proofs.PutLemmas.{no_mounts_file, no_pending_file}
+use Rattle.store_core.proofs.RoomLemmas.{room_by}
 use Rattle.store_core.proofs.PerformLemmas.{stands_at_rest, Still, calm_tied, refusing_tied, stopped_tied, quiet, quiet_stop}
 
 -- ---- a value more in a finite map
@@ -60,9 +63,9 @@ insert_here m key value = map.get-insert nat_list_cmp_total m key value key ∙ 
 
 pub insert_apart : {X : Type 0} (m : TextMap X) (key q : Text) (value : X) → key ≢ q → map.get (map.insert m key value) q ≡ map.get m q
 insert_apart m key q value apart = map.get-insert nat_list_cmp_total m key value q
-    ∙ ap (λ b. cond b (Some value) (map.get m q)) (false_by (eq_by_cmp (slice_cmp nat_cmp) q key) (λ e. apart (sym (exact_bytes q key (equal (slice_cmp nat_cmp q key) e)))))
+    ∙ ap (λ b. cond b (Some value) (map.get m q)) (false_from_ne_true (eq_by_cmp (slice_cmp nat_cmp) q key) (λ e. apart (sym (exact_bytes q key (equal (slice_cmp nat_cmp q key) e)))))
 
--- ---- the file of a secret is that of no other one, and not the file of the mounts
+-- ---- the file of a secret is that of no other one
 
 pub secret_paths_same : (root : Text) (mounts : List Row) (a b : Text) → IsTable root mounts → IsName a → IsName b → secret_path mounts a ≡ secret_path mounts b → a ≡ b
 secret_paths_same root mounts a b table good_a good_b e =
@@ -82,19 +85,14 @@ secret_paths_same root mounts a b table good_a good_b e =
 pub secret_paths_differ : (root : Text) (mounts : List Row) (a b : Text) → IsTable root mounts → IsName a → IsName b → a ≢ b → secret_path mounts a ≢ secret_path mounts b
 secret_paths_differ root mounts a b table good_a good_b apart e = apart (secret_paths_same root mounts a b table good_a good_b e)
 
-secret_ends : (mounts : List Row) (name : Text) → secret_path mounts name ≡ path_in (dir_of mounts name) (rest_of mounts name ++ codes ".gp") ++ 103 ∷ []
-secret_ends mounts name =
-    ap (path_in (dir_of mounts name)) (sym (append_assoc (rest_of mounts name) (codes ".gp") (103 ∷ [])))
-    ∙ sym (append_assoc (dir_of mounts name) (47 ∷ (rest_of mounts name ++ codes ".gp")) (103 ∷ []))
+-- ---- a secret more
 
-mounts_ends : (root : Text) → mounts_path root ≡ path_in root (codes ".gopass-mount") ++ 115 ∷ []
-mounts_ends root = sym (append_assoc root (47 ∷ codes ".gopass-mount") (115 ∷ []))
-
-pub secret_no_mounts : (root : Text) (mounts : List Row) (name : Text) → secret_path mounts name ≢ mounts_path root
-secret_no_mounts root mounts name e = absurd (omega (
-  arith,
-  last_is (path_in (dir_of mounts name) (rest_of mounts name ++ codes ".gp")) (path_in root (codes ".gopass-mount")) 103 115 (sym (secret_ends mounts name) ∙ (e ∙ mounts_ends root)),
-))
+few_more : {X : Type 0} (rows : TextMap X) (name : Text) (x : X) → (is_some (map.get rows name) ≡ false → map.len rows < 8192) → map.len rows ≤ 8192 → map.len (map.insert rows name x) ≤ 8192
+few_more rows name x room few = by (is_some (map.get rows name)) refl (map.len-insert nat_list_cmp_total rows name x)
+  where
+    by : (there : Bool) → is_some (map.get rows name) ≡ there → map.len (map.insert rows name x) ≡ cond there (map.len rows) (map.len rows + 1) → map.len (map.insert rows name x) ≤ 8192
+    by true e is = omega (arith, is, few)
+    by false e is = omega (arith, is, room e)
 
 -- ---- the file of a secret is put
 
@@ -113,7 +111,7 @@ module _ (opens : Opens) (root : Text) (files files' : Files) (state : State) (n
   template_kept folder k = file_apart (template_path state.mounts k folder) (λ e. no_secret state.mounts k folder template_file name (inr refl) (sym e))
 
   mounts_kept : files' (mounts_path root) ≡ files (mounts_path root)
-  mounts_kept = file_apart (mounts_path root) (secret_no_mounts root state.mounts name)
+  mounts_kept = file_apart (mounts_path root) (no_mounts_file root state.mounts name)
 
   module _ (content : Content) (sealed : opens bytes ≡ Some content) where
     row_at_name : map.get (map.insert state.rows name (Sealed content)) name ≡ option_map (cell_of opens) (files' (secret_path state.mounts name))
@@ -123,28 +121,34 @@ module _ (opens : Opens) (root : Text) (files files' : Files) (state : State) (n
     row_put q named = elim (cases_path name q) [
       | inl same ↦ subst (λ (t : Text). map.get (map.insert state.rows name (Sealed content)) t ≡ option_map (cell_of opens) (files' (secret_path state.mounts t))) same row_at_name
       | inr apart ↦ insert_apart state.rows name q (Sealed content) apart
-          ∙ (s.row q named ∙ sym (ap (option_map (cell_of opens)) (file_apart (secret_path state.mounts q) (secret_paths_differ root state.mounts name q table good named apart))))
+          ∙ (s.secrets.row q named ∙ sym (ap (option_map (cell_of opens)) (file_apart (secret_path state.mounts q) (secret_paths_differ root state.mounts name q table good named apart))))
     ]
 
     no_row_put : (q : Text) → ¬ IsName q → map.get (map.insert state.rows name (Sealed content)) q ≡ None
-    no_row_put q other = insert_apart state.rows name q (Sealed content) (λ e. other (subst (λ (t : Text). IsName t) e good)) ∙ s.no_row q other
+    no_row_put q other = insert_apart state.rows name q (Sealed content) (λ e. other (subst (λ (t : Text). IsName t) e good)) ∙ s.secrets.no_row q other
 
-    other_kept : (path : Text) → ¬ IsOwned root state.mounts path → IsFalse (is_outside root path) → state.rest path ≡ files' path
-    other_kept path other out = s.other path other out ∙ sym (file_apart path (λ e. other (inr (inl (name, good, sym e)))))
+    other_kept : (path : Text) → ¬ IsPlaced root state.mounts path → IsFalse (is_outside root path) → state.rest path ≡ files' path
+    other_kept path other out = s.rest.other path other out ∙ sym (file_apart path (λ e. other (inr (inl (name, good, sym e)))))
 
-    put_stands : AreSizes root files' state.mounts (with_cell name (Sealed content) state).sizes → StandsFor opens root files' (with_cell name (Sealed content) state)
-    put_stands sizes = record {
+    put_stands : AreSizes root files' state.mounts (with_cell name (Sealed content) state).sizes → (has_secret state name ≡ false → map.len state.rows < 8192) → StandsFor opens root files' (with_cell name (Sealed content) state)
+    put_stands sizes room = record {
       mounts_are = subst (λ (file : Option Text). AreMounts root file state.mounts) (sym mounts_kept) s.mounts_are;
-      rule = λ folder k own. subst (λ (file : Option Text). IsRuleOf file (rule_at state.rules folder)) (sym (rule_kept folder k)) (s.rule folder k own);
-      no_rule = s.no_rule;
-      row = row_put;
-      no_row = no_row_put;
-      template = λ folder k own. s.template folder k own ∙ sym (template_kept folder k);
-      no_template = s.no_template;
+      rules = record {
+        rule = λ folder k own. subst (λ (file : Option Text). IsRuleOf file (rule_at state.rules folder)) (sym (rule_kept folder k)) (s.rules.rule folder k own);
+        no_rule = s.rules.no_rule;
+      };
+      secrets = record { row = row_put; no_row = no_row_put };
+      templates = record {
+        template = λ folder k own. s.templates.template folder k own ∙ sym (template_kept folder k);
+        no_template = s.templates.no_template;
+      };
       sizes_are = sizes;
-      owned = s.owned;
-      outside = s.outside;
-      other = other_kept;
+      rest = record { owned = s.rest.owned; outside = s.rest.outside; other = other_kept };
+      limits = record {
+        no_pending = file_apart (pending_path root) (no_pending_file root state.mounts name) ∙ s.limits.no_pending;
+        few_rules = s.limits.few_rules;
+        few_secrets = few_more state.rows name (Sealed content) room s.limits.few_secrets;
+      };
     }
 
 pub stands_inserted : (opens : Opens) (root : Text) (files files' : Files) (state : State) (name bytes : Text) (content : Content)
@@ -152,18 +156,19 @@ pub stands_inserted : (opens : Opens) (root : Text) (files files' : Files) (stat
     → files' ≡ put files (secret_path state.mounts name) (Some bytes)
     → opens bytes ≡ Some content
     → AreSizes root files' state.mounts (with_cell name (Sealed content) state).sizes
+    → (has_secret state name ≡ false → map.len state.rows < 8192)
     → StandsFor opens root files' (with_cell name (Sealed content) state)
-stands_inserted opens root files files' state name bytes content s table good made sealed sizes =
-    put_stands opens root files files' state name bytes s table good made content sealed sizes
+stands_inserted opens root files files' state name bytes content s table good made sealed sizes room =
+    put_stands opens root files files' state name bytes s table good made content sealed sizes room
 
 -- ---- one commit: the files before it stand for the start, and those after it for the next state
 
 module _ (opens : Opens) (root : Text) (start next : State) (plan : Events → Plan) (old mid new : Moment) (after : Files) (s : StandsFor opens root old.view.files start) (t : StandsFor opens root after next)
     (still : Still root old mid) (run : Leaves (IsBeforeOrAfter root mid.view.files after) mid.view new.view) where
-  left_before : (m : Files) → StandsForFiles root m mid.view.files → LeftFor opens root start m
+  left_before : (m : Files) → RecoversTo root m mid.view.files → LeftFor opens root start m
   left_before m stands = (mid.view.files, stands, subst (λ (f : Files). StandsFor opens root f start) (sym still.rests.files) s)
 
-  left_after : (m : Files) → StandsForFiles root m after → LeftFor opens root next m
+  left_after : (m : Files) → RecoversTo root m after → LeftFor opens root next m
   left_after m stands = (after, stands, t)
 
   passed : (m : Files) → IsBeforeOrAfter root mid.view.files after m → IsPassed opens root start (next ∷ []) m
@@ -172,7 +177,7 @@ module _ (opens : Opens) (root : Text) (start next : State) (plan : Events → P
 
   passed_at_rest : (m : Files) → mid.view.images m → IsPassed opens root start (next ∷ []) m
   passed_at_rest m im =
-      (0, omega arith, (old.view.files, subst (λ (f : Files). StandsForFiles root f old.view.files) (sym (still.at_rest.only m (still.rests.only m im))) (stands_at_rest root old.view.files still.at_rest.none), s))
+      (0, omega arith, (old.view.files, subst (λ (f : Files). RecoversTo root f old.view.files) (sym (still.at_rest.only m (still.rests.only m im))) (stands_at_rest root old.view.files still.at_rest.none), s))
 
   leaves_passed : Leaves (IsPassed opens root start (next ∷ [])) old.view new.view
   leaves_passed = leaves_then (IsPassed opens root start (next ∷ [])) old.view mid.view new.view
@@ -183,13 +188,13 @@ module _ (opens : Opens) (root : Text) (start next : State) (plan : Events → P
       })
       (leaves_weaken (IsBeforeOrAfter root mid.view.files after) (IsPassed opens root start (next ∷ [])) mid.view new.view passed run)
 
-  goes_made : ((path : Text) → is_service root path ≡ true → after path ≡ None) → Stands after new.view → new.commits ≡ counted mid.commits → Goes opens root start (next ∷ []) 1 old new
+  goes_made : ((path : Text) → is_service root path ≡ true → after path ≡ None) → IsDurable after new.view → new.commits ≡ counted mid.commits → Goes opens root start (next ∷ []) 1 old new
   goes_made none made count = record {
     within = omega arith;
     counted = record { least = omega (arith, count, still.commits); most = omega (arith, count, still.commits) };
     state = λ free. subst (λ (f : Files). StandsFor opens root f next) (sym made.files) t;
     any_moment = leaves_passed;
-    at_end = λ m im. inl (left_after m (subst (λ (f : Files). StandsForFiles root f after) (sym (made.only m im)) (stands_at_rest root after none)));
+    at_end = λ m im. inl (left_after m (subst (λ (f : Files). RecoversTo root f after) (sym (made.only m im)) (stands_at_rest root after none)));
     still = λ e free. absurd (omega (arith, e));
   }
 
@@ -210,7 +215,7 @@ module _ (opens : Opens) (root : Text) (start next : State) (plan : Events → P
   -- the commit was answered, and the plan has this one state
   pub made_one : (events : Events) (said : Said) (calls : ℕ) → IsTied old.faults new.faults events None → new.calls ≤ old.calls + calls
       → plan events ≡ record { said = said; states = next ∷ []; calls = calls; records = [] }
-      → ((path : Text) → is_service root path ≡ true → after path ≡ None) → Stands after new.view → new.commits ≡ counted mid.commits → Performs opens root plan start old new said
+      → ((path : Text) → is_service root path ≡ true → after path ≡ None) → IsDurable after new.view → new.commits ≡ counted mid.commits → Performs opens root plan start old new said
   made_one events said calls tied few is none made count = record {
     events = events;
     stop = None;
@@ -244,7 +249,7 @@ never_stuck outcome fault stuck is was free e = false≢true (sym free ∙ was.0
 -- ---- what is planned
 
 -- a name is there where it is among the keys
-pub there_by_keys : (state : State) (name : Text) (found : Bool) → IsTrue found ↔ Contains (map.keys state.rows) name → is_there state name ≡ found
+pub there_by_keys : (state : State) (name : Text) (found : Bool) → IsTrue found ↔ Contains (map.keys state.rows) name → has_secret state name ≡ found
 there_by_keys state name true tells = (let (cell, is) = row_there state.rows name (tells.0 refl) in ap is_some is)
 there_by_keys state name false tells = ap is_some (row_missing state.rows name (λ has. false≢true (tells.1 has)))
 
@@ -253,24 +258,24 @@ module _ (ring : Ring) (name body : Text) (force : Bool) (state : State) where
   plan_ruled events ids ruled = ap (insert_ruled ring name body force state events) ruled
 
   module _ (ids : Ids) (ruled : governing_ids state.rules state.mounts name ≡ Some ids) where
-    plan_by_way : (events : Events) (b : Bool) → (not force && is_there state name) ≡ b
+    plan_by_way : (events : Events) (b : Bool) → (not force && has_secret state name) ≡ b
         → plan_insert ring name body force state events ≡ cond b (answers (refused 4 (is_there_already name))) (insert_within ring name body state events ids (passed_by state name body))
     plan_by_way events b way = plan_ruled events (Some ids) ruled ∙ ap (λ w. cond w (answers (refused 4 (is_there_already name))) (insert_within ring name body state events ids (passed_by state name body))) way
 
-    plan_within : (events : Events) (limit : Option Limit) → (not force && is_there state name) ≡ false → passed_by state name body ≡ limit
+    plan_within : (events : Events) (limit : Option Limit) → (not force && has_secret state name) ≡ false → passed_by state name body ≡ limit
         → plan_insert ring name body force state events ≡ insert_within ring name body state events ids limit
     plan_within events limit fresh is = plan_by_way events false fresh ∙ ap (insert_within ring name body state events ids) is
 
-    plan_sealed : (unknown : Option ℕ) → (not force && is_there state name) ≡ false → passed_by state name body ≡ None → first_unknown ring ids ≡ unknown
+    plan_sealed : (unknown : Option ℕ) → (not force && has_secret state name) ≡ false → passed_by state name body ≡ None → first_unknown ring ids ≡ unknown
         → plan_insert ring name body force state calm ≡ insert_sealed name body state ids unknown
     plan_sealed unknown fresh room is = plan_within calm None fresh room ∙ ap (insert_sealed name body state ids) is
 
-    plan_failed : (not force && is_there state name) ≡ false → passed_by state name body ≡ None → plan_insert ring name body force state (refusing name) ≡ answers_by_tool (refused 11 (tool_failed name))
+    plan_failed : (not force && has_secret state name) ≡ false → passed_by state name body ≡ None → plan_insert ring name body force state (refusing name) ≡ answers_by_tool (refused 11 (tool_failed name))
     plan_failed fresh room = plan_within (refusing name) None fresh room
         ∙ ap (λ b. cond b (answers_by_tool (refused 11 (tool_failed name))) (insert_sealed name body state ids (first_unknown ring ids))) ((bytes_eq-Decides name name).1 refl)
 
     -- where nothing failed before, the tool is called once
-    pub calls_once : (not force && is_there state name) ≡ false → passed_by state name body ≡ None → (plan_insert ring name body force state calm).calls ≡ 1
+    pub calls_once : (not force && has_secret state name) ≡ false → passed_by state name body ≡ None → (plan_insert ring name body force state calm).calls ≡ 1
     calls_once fresh room = by (first_unknown ring ids) refl
       where
         by : (unknown : Option ℕ) → first_unknown ring ids ≡ unknown → (plan_insert ring name body force state calm).calls ≡ 1
@@ -297,14 +302,14 @@ module _ (opens : Opens) (root : Text) (ring : Ring) (name body : Text) (force :
 
   module _ (ids : Ids) (ruled : governing_ids state.rules state.mounts name ≡ Some ids) where
     -- the secret stands in the way
-    pub insert_in_the_way : (not force && is_there state name) ≡ true → new.calls ≤ old.calls → Performs opens root (plan_insert ring name body force state) state old new (refusal_said name Exists)
+    pub insert_in_the_way : (not force && has_secret state name) ≡ true → new.calls ≤ old.calls → Performs opens root (plan_insert ring name body force state) state old new (refusal_said name Exists)
     insert_in_the_way way few = quiet opens root state (plan_insert ring name body force state) old new stands still calm (refusal_said name Exists) 0 (calm_tied old.faults new.faults still.tools_later) (omega (arith, few))
         (plan_by_way ring name body force state ids ruled calm true way)
 
-    pub insert_exists : force ≡ false → is_there state name ≡ true → new.calls ≤ old.calls → Performs opens root (plan_insert ring name body force state) state old new (refusal_said name Exists)
+    pub insert_exists : force ≡ false → has_secret state name ≡ true → new.calls ≤ old.calls → Performs opens root (plan_insert ring name body force state) state old new (refusal_said name Exists)
     insert_exists off there few = insert_in_the_way (λ i. not (off i) && there i) few
 
-    module _ (fresh : (not force && is_there state name) ≡ false) where
+    module _ (fresh : (not force && has_secret state name) ≡ false) where
       -- a limit would be passed
       pub insert_full : (limit : Limit) → passed_by state name body ≡ Some limit → new.calls ≤ old.calls → Performs opens root (plan_insert ring name body force state) state old new (refusal_said name (Full limit))
       insert_full limit is few = quiet opens root state (plan_insert ring name body force state) old new stands still calm (refusal_said name (Full limit)) 0 (calm_tied old.faults new.faults still.tools_later) (omega (arith, few))
@@ -328,12 +333,13 @@ module _ (opens : Opens) (root : Text) (ring : Ring) (name body : Text) (force :
 -- ---- the ways with the commit
 
 module _ (opens : Opens) (root : Text) (ring : Ring) (name body : Text) (force : Bool) (state : State) (old mid new : Moment) (stands : StandsFor opens root old.view.files state) (still : Still root old mid)
-    (table : IsTable root state.mounts) (good : IsName name) (ids : Ids) (ruled : governing_ids state.rules state.mounts name ≡ Some ids) (fresh : (not force && is_there state name) ≡ false)
+    (table : IsTable root state.mounts) (good : IsName name) (ids : Ids) (ruled : governing_ids state.rules state.mounts name ≡ Some ids) (fresh : (not force && has_secret state name) ≡ false)
     (room : passed_by state name body ≡ None) (known : first_unknown ring ids ≡ None) (sealed : Text) (opened : opens sealed ≡ Some (made_of ids body)) (after : Files)
     (changed : after ≡ put mid.view.files (secret_path state.mounts name) (Some sealed)) (sizes : AreSizes root after state.mounts (with_cell name (Sealed (made_of ids body)) state).sizes)
     (run : Leaves (IsBeforeOrAfter root mid.view.files after) mid.view new.view) where
   after_stands : StandsFor opens root after (with_cell name (Sealed (made_of ids body)) state)
   after_stands = stands_inserted opens root mid.view.files after state name sealed (made_of ids body) (subst (λ (f : Files). StandsFor opens root f state) (sym still.rests.files) stands) table good changed opened sizes
+      (room_by body (has_secret state name) (map.len state.rows) (slice_index_or state.sizes (mount_of state.mounts name) 0) room).secrets_few
 
   -- none of the vault's own files is there after it
   after_none : (path : Text) → is_service root path ≡ true → after path ≡ None
@@ -343,7 +349,7 @@ module _ (opens : Opens) (root : Text) (ring : Ring) (name body : Text) (force :
       ∙ (ap (λ (f : Files). f path) still.rests.files ∙ still.at_rest.none path is))
 
   -- the commit was answered
-  pub insert_done : Stands after new.view → new.commits ≡ counted mid.commits → old.faults.tools ≤ new.faults.tools → new.calls ≤ old.calls + 1 → Performs opens root (plan_insert ring name body force state) state old new (granted [])
+  pub insert_done : IsDurable after new.view → new.commits ≡ counted mid.commits → old.faults.tools ≤ new.faults.tools → new.calls ≤ old.calls + 1 → Performs opens root (plan_insert ring name body force state) state old new (granted [])
   insert_done made count later few = made_one opens root state (with_cell name (Sealed (made_of ids body)) state) (plan_insert ring name body force state) old mid new after stands after_stands still run calm (granted []) 1
       (calm_tied old.faults new.faults later) few (plan_sealed ring name body force state ids ruled None fresh room known) after_none made count
 

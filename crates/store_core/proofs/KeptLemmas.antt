@@ -6,12 +6,12 @@ use Rattle.recipient_files.specs.Ids.{Ids}
 use Rattle.cipher_port.specs.Tool.{Ring, made_of, first_unknown}
 use Rattle.path_rules.specs.Governing.{governing_ids}
 use Rattle.disk_model.proofs.FileLemmas.{cases_path}
-use Rattle.store_core.specs.declared.fault.Limit.{Limit}
-use Rattle.store_core.specs.State.{State, Cell, Sealed}
+use Rattle.store_state.specs.declared.fault.Limit.{Limit}
+use Rattle.store_state.specs.State.{State, Cell, Sealed}
 use Rattle.store_core.specs.Said.{refused, answers, answers_by_tool}
 use Rattle.store_core.specs.Texts.{is_there_already, tool_failed}
 use Rattle.store_core.specs.Events.{Events, is_refused}
-use Rattle.store_core.specs.Insert.{is_there, with_cell, passed_by, insert_sealed, insert_within, insert_ruled, plan_insert}
+use Rattle.store_core.specs.Insert.{has_secret, with_cell, passed_by, insert_sealed, insert_within, insert_ruled, plan_insert}
 use Rattle.store_core.specs.Kept.{IsMadeFor, IsKept, AreAllKept}
 use Rattle.store_core.proofs.InsertLemmas.{insert_here, insert_apart}
 
@@ -54,7 +54,7 @@ module _ (ring : Ring) (name body : Text) (force : Bool) (state : State) (events
 
   by_rule : (rule : Option Ids) → governing_ids state.rules state.mounts name ≡ rule → AreAllKept (insert_ruled ring name body force state events rule).states
   by_rule None ruled = none_kept
-  by_rule (Some ids) ruled = elim (not force && is_there state name) as (λ b. AreAllKept (cond b (answers (refused 4 (is_there_already name))) (insert_within ring name body state events ids (passed_by state name body))).states) [
+  by_rule (Some ids) ruled = elim (not force && has_secret state name) as (λ b. AreAllKept (cond b (answers (refused 4 (is_there_already name))) (insert_within ring name body state events ids (passed_by state name body))).states) [
     | true ↦ none_kept
     | false ↦ by_limit ids ruled (passed_by state name body)
   ]

@@ -7,18 +7,18 @@ use Rattle.disk_model.specs.Disk.{Rests}
 use Rattle.disk_model.specs.Files.{Files}
 use Rattle.disk_model.proofs.RunLemmas.{rests_none}
 use Rattle.cipher_port.specs.Tool.{Opens}
-use Rattle.pending_journal.specs.Redo.{IsAtRest, StandsFor as StandsForFiles}
+use Rattle.pending_journal.specs.Redo.{IsAtRest, RecoversTo}
 use Rattle.pending_journal.specs.Service.{is_service, journal_path}
 use Rattle.pending_journal.proofs.ServiceLemmas.{service_journal}
 use Rattle.pending_journal.proofs.RedoLemmas.{stands_none, without_none}
-use Rattle.store_core.specs.State.{State, StandsFor}
+use Rattle.store_state.specs.State.{State, StandsFor}
 use Rattle.store_core.specs.Said.{Said, Plan}
 use Rattle.store_core.specs.Events.{Events, calm, refusing, Cause, TheDisk, Memory, Stop}
 use Rattle.store_core.specs.Moment.{Faults, Moment}
-use Rattle.store_core.specs.Performs.{IsTied, Goes, LeftFor, Performs, cut, answered, stop_said}
+use Rattle.store_core.specs.Performs.{IsTied, Goes, LeftFor, Performs, cut_off, answered, stop_said}
 
 -- files without any of the vault's own stand for themselves
-pub stands_at_rest : (root : Text) (files : Files) → ((q : Text) → is_service root q ≡ true → files q ≡ None) → StandsForFiles root files files
+pub stands_at_rest : (root : Text) (files : Files) → ((q : Text) → is_service root q ≡ true → files q ≡ None) → RecoversTo root files files
 stands_at_rest root files none = stands_none root files files (none (journal_path root) (service_journal root)) (sym (without_none root files none))
 
 -- nothing of the store is changed, whose files are the only image, and no count of faults fell
@@ -59,7 +59,7 @@ stopped_tied old new cause later tie = record { tools = omega (arith, later); di
 module _ (opens : Opens) (root : Text) (start : State) (plan : Events → Plan) (old new : Moment) (s : StandsFor opens root old.view.files start) (still : Still root old new) where
   -- each image that was there stands for the start
   start_left : (m : Files) → old.view.images m → LeftFor opens root start m
-  start_left m im = (old.view.files, subst (λ (f : Files). StandsForFiles root f old.view.files) (sym (still.at_rest.only m im)) (stands_at_rest root old.view.files still.at_rest.none), s)
+  start_left m im = (old.view.files, subst (λ (f : Files). RecoversTo root f old.view.files) (sym (still.at_rest.only m im)) (stands_at_rest root old.view.files still.at_rest.none), s)
 
   -- and so does each that is there now
   still_left : (m : Files) → new.view.images m → LeftFor opens root start m
@@ -104,7 +104,7 @@ module _ (opens : Opens) (root : Text) (start : State) (plan : Events → Plan) 
 
 -- ---- want of memory behind the command: the same states, and another answer
 
-cut_again : (stop : Option Stop) (p : Plan) → (cut stop p).states ≡ take (answered stop p + 1) p.states
+cut_again : (stop : Option Stop) (p : Plan) → (cut_off stop p).states ≡ take (answered stop p + 1) p.states
 cut_again None p = sym (take_all (length p.states + 1) p.states (omega arith))
 cut_again (Some stop) p = refl
 

@@ -2,7 +2,7 @@
 use Rattle.std.proofs.Common.{◌≡◌, ◌≢◌, ◌⊎◌, ◌↔◌, inl, inr, ℕ, ◌+◌, ◌<◌, Bool, false, List, [], ◌∷◌, ◌++◌, length, get_or, Option, Some, None, if◌then◌else◌, bytes_eq, refl, ap, sym, ◌∙◌, subst, arith}
 use Rattle.std.specs.Prelude.{Contains, codes}
 use Rattle.std.specs.List.{insert}
-use Rattle.std.proofs.lemmas.Bool.{cases_eq}
+use Rattle.std.proofs.lemmas.Bool.{cases_eq, false_from_ne_true, or_cases}
 use Rattle.std.proofs.lemmas.List.{append_assoc, append_cancel_left, append_cancel_right, get_or-set_same, get_or-set_other}
 use Rattle.std.proofs.lemmas.Slice.Eq.{bytes_eq-Decides}
 use Rattle.gopass_base.specs.Text.{Text}
@@ -17,21 +17,20 @@ use Rattle.disk_model.specs.Files.{Files, put}
 use Rattle.disk_model.specs.Listing.{IsListing, LiesIn, IsThere}
 use Rattle.disk_model.proofs.FileLemmas.{cases_path, put_apart, put_here}
 use Rattle.pending_journal.specs.Service.{is_service, without_service}
-use Rattle.store_core.specs.declared.kind.Kind.{Kind}
-use Rattle.store_core.specs.declared.kind.Kind.TheVariants.{Secret}
-use Rattle.store_core.specs.Places.{IsKind, dir_of, rest_of, rule_path, secret_path}
-use Rattle.store_core.specs.Found.{LiesAs, GivesName}
-use Rattle.store_core.specs.Tree.{is_own, tree_files}
-use Rattle.store_core.specs.Survey.{IsCountOf, IsOfFiles}
-use Rattle.store_core.specs.RuleFiles.{AreRules, IsRuleOf}
-use Rattle.store_core.specs.State.{mounts_path}
-use Rattle.store_core.specs.Opening.{pending_path}
+use Rattle.store_state.specs.declared.kind.Kind.{Kind}
+use Rattle.store_state.specs.declared.kind.Kind.TheVariants.{Secret}
+use Rattle.store_state.specs.Places.{IsKind, dir_of, rest_of, rule_path, secret_path}
+use Rattle.store_state.specs.Found.{LiesAs, GivesName}
+use Rattle.store_state.specs.Tree.{is_own, tree_files}
+use Rattle.store_state.specs.Survey.{IsCountOf, IsOfFiles}
+use Rattle.store_state.specs.RuleFiles.{AreRules, IsRuleOf}
+use Rattle.store_state.specs.State.{mounts_path, pending_path}
 use Rattle.store_core.specs.Insert.{one_more}
-use Rattle.store_core.proofs.OneKind.{differ, one_kind}
-use Rattle.store_core.proofs.PathLemmas.{secret_at_path, secret_lies_in}
-use Rattle.store_core.proofs.NameLemmas.{false_by, no_service, one_dir, or_cases}
-use Rattle.store_core.proofs.RuleLemmas.{rule_path_differs}
-use Rattle.store_core.proofs.PlaceLemmas.{inserted_has, inserted_length, inserted_rising, place_of}
+use Rattle.store_state.proofs.OneKind.{differ, one_kind}
+use Rattle.store_state.proofs.PathLemmas.{secret_at_path, secret_lies_in}
+use Rattle.store_state.proofs.NameLemmas.{no_service, one_dir}
+use Rattle.store_state.proofs.RuleLemmas.{rule_path_differs}
+use Rattle.store_state.proofs.PlaceLemmas.{inserted_has, inserted_length, inserted_rising, place_of}
 
 -- ---- the file of a secret is none of the store's own
 
@@ -50,7 +49,7 @@ no_pending_file root mounts name e =
     absurd (omega (arith, differ front root (codes ".g") (47 ∷ codes ".gopass-pendi") 112 110 (append_cancel_right (front ++ codes ".gp") (root ++ 47 ∷ codes ".gopass-pendin") (103 ∷ []) whole)))
 
 is_no_own : (root : Text) (mounts : List Row) (name : Text) → is_own root (secret_path mounts name) ≡ false
-is_no_own root mounts name = false_by (is_own root (secret_path mounts name)) (λ e.
+is_no_own root mounts name = false_from_ne_true (is_own root (secret_path mounts name)) (λ e.
     elim (or_cases (bytes_eq (secret_path mounts name) (mounts_path root)) (bytes_eq (secret_path mounts name) (pending_path root)) e) [
       | inl same ↦ no_mounts_file root mounts name ((bytes_eq-Decides (secret_path mounts name) (mounts_path root)).0 same)
       | inr same ↦ no_pending_file root mounts name ((bytes_eq-Decides (secret_path mounts name) (pending_path root)).0 same)

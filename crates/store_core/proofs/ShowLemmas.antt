@@ -21,10 +21,10 @@ use Rattle.cipher_port.specs.Tool.{Content, Opens, Ring}
 use Rattle.cipher_port.specs.declared.cipher.UnsealFault.TheVariants as tool
 use Rattle.store_core.specs.declared.refusal.Refusal.{Refusal}
 use Rattle.store_core.specs.declared.refusal.Refusal.TheVariants.{NotFound, IsFolder, Exists, NoRule, Full, UnknownId, NoKey, NotSealed, Tool, Disk, NoMemory}
-use Rattle.store_core.specs.declared.opening.Found.{Found}
-use Rattle.store_core.specs.Opening.{IsFound}
-use Rattle.store_core.specs.Places.{secret_path}
-use Rattle.store_core.specs.State.{State, Cell, StandsFor, cell_of, cell_with}
+use Rattle.store_state.specs.declared.opening.Found.{Found}
+use Rattle.store_state.specs.Opening.{IsFound}
+use Rattle.store_state.specs.Places.{secret_path}
+use Rattle.store_state.specs.State.{State, Cell, StandsFor, cell_of, cell_with}
 use Rattle.store_core.specs.Said.{Said, Plan, granted, refused, answers, answers_by_tool}
 use Rattle.store_core.specs.Texts.{is_a_folder, not_in_the_store, no_key, not_sealed}
 use Rattle.store_core.specs.Events.{Events, calm, refusing, TheDisk, Memory}
@@ -33,8 +33,9 @@ use Rattle.store_core.specs.Performs.{Performs}
 use Rattle.store_core.specs.Refusals.{refusal_said, refusal_by_disk, said_by}
 use Rattle.store_core.specs.Show.{plan_show, names_of, missing, shown, show_row, holds_one}
 use Rattle.store_core.specs.Unsealing.{IsRefusalBy, Shows, why_missing}
-use Rattle.store_core.proofs.NameLemmas.{no_service}
-use Rattle.store_core.proofs.AgreeLemmas.{mounts_agree, table_agrees, row_missing, row_there, row_named}
+use Rattle.store_state.proofs.NameLemmas.{no_service}
+use Rattle.store_state.proofs.AgreeLemmas.{mounts_agree, table_agrees, row_named}
+use Rattle.store_state.proofs.KeyLemmas.{row_missing, row_there}
 use Rattle.store_core.proofs.PerformLemmas.{Still, calm_tied, refusing_tied, quiet, quiet_stop}
 
 -- what is said of a name that has no secret
@@ -112,11 +113,11 @@ module _ (opens : Opens) (root : Text) (ring : Ring) (name : Text) (state : Stat
   module _ (good : IsName name) where
     -- a secret that is there has a file
     pub file_there : Contains (names_of state) name → (bytes : Text) × (old.view.files (secret_path state.mounts name) ≡ Some bytes)
-    file_there has = (let (cell, is) = row_there state.rows name has in some_of (cell_of opens) (old.view.files (secret_path state.mounts name)) cell (sym (stands.row name good) ∙ is))
+    file_there has = (let (cell, is) = row_there state.rows name has in some_of (cell_of opens) (old.view.files (secret_path state.mounts name)) cell (sym (stands.secrets.row name good) ∙ is))
 
     module _ (bytes : Text) (file : old.view.files (secret_path state.mounts name) ≡ Some bytes) where
       cell_is : (content : Option Content) → opens bytes ≡ content → map.get state.rows name ≡ Some (cell_with content bytes)
-      cell_is content e = stands.row name good ∙ (ap (option_map (cell_of opens)) file ∙ ap (λ c. Some (cell_with c bytes)) e)
+      cell_is content e = stands.secrets.row name good ∙ (ap (option_map (cell_of opens)) file ∙ ap (λ c. Some (cell_with c bytes)) e)
 
       -- what is planned where nothing failed
       calmly : (content : Option Content) (said : Said) → opens bytes ≡ content → new.calls ≤ old.calls + 1 → shown ring name (cell_with content bytes) ≡ said → Performs opens root (plan_show ring name state) state old new said

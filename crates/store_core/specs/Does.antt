@@ -4,7 +4,7 @@ use Rattle.gopass_base.specs.Faults.{Rose}
 use Rattle.disk_model.specs.declared.disk.Disk.{Ghosts}
 use Rattle.cipher_port.specs.Tool.{Ring}
 use Rattle.store_core.specs.declared.store.Store.{Store}
-use Rattle.store_core.specs.State.{State, StandsFor}
+use Rattle.store_state.specs.State.{State, StandsFor}
 use Rattle.store_core.specs.Said.{Said, Plan}
 use Rattle.store_core.specs.Events.{Events}
 use Rattle.store_core.specs.Moment.{Faults, Tools, moment_of}

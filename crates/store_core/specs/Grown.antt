@@ -2,8 +2,8 @@
 use Rattle.std.specs.Prelude.{◌≡◌, ◌⊎◌, ◌↔◌, ◌<◌, ◌≤◌, length, slice_index_or, Contains}
 use Rattle.gopass_base.specs.Text.{Text}
 use Rattle.mount_table.specs.MountOf.{mount_of}
-use Rattle.store_core.specs.declared.opening.Found.{Found}
-use Rattle.store_core.specs.Order.{IsRising}
+use Rattle.store_state.specs.declared.opening.Found.{Found}
+use Rattle.gopass_base.specs.Order.{IsRising}
 use Rattle.store_core.specs.Insert.{one_more}
 
 -- what was found, and the secret with this name besides

@@ -6,15 +6,15 @@ use Rattle.mount_table.specs.MountOf.{mount_of}
 use Rattle.recipient_files.specs.Ids.{Ids}
 use Rattle.path_rules.specs.Governing.{governing_ids}
 use Rattle.cipher_port.specs.Tool.{Ring, made_of, first_unknown}
-use Rattle.store_core.specs.declared.fault.Limit.{Limit}
-use Rattle.store_core.specs.declared.fault.Limit.TheVariants.{Secrets, Body, Files}
-use Rattle.store_core.specs.State.{State, Cell, Sealed}
+use Rattle.store_state.specs.declared.fault.Limit.{Limit}
+use Rattle.store_state.specs.declared.fault.Limit.TheVariants.{Secrets, Body, Files}
+use Rattle.store_state.specs.State.{State, Cell, Sealed}
 use Rattle.store_core.specs.Said.{Said, Plan, granted, refused, answers, answers_by_tool}
 use Rattle.store_core.specs.Texts.{is_there_already, no_rule_for, limit_passed, not_known, tool_failed}
 use Rattle.store_core.specs.Events.{Events, is_refused}
 
-abbrev pub is_there : State → Text → Bool
-is_there state name = is_some (map.get state.rows name)
+abbrev pub has_secret : State → Text → Bool
+has_secret state name = is_some (map.get state.rows name)
 
 -- one file more in the k-th number
 abbrev pub one_more : ℕ → List ℕ → List ℕ
@@ -24,7 +24,7 @@ one_more k sizes = set sizes k (slice_index_or sizes k 0 + 1)
 abbrev pub with_cell : Text → Cell → State → State
 with_cell name cell state = record state {
   rows = map.insert state.rows name cell;
-  sizes = if is_there state name then state.sizes else one_more (mount_of state.mounts name) state.sizes;
+  sizes = if has_secret state name then state.sizes else one_more (mount_of state.mounts name) state.sizes;
 }
 
 -- the limit that a new secret would pass: 8,192 secrets, or 40,000 files below the directory of its mount
@@ -36,7 +36,7 @@ full_for state name =
 
 -- the limit that the secret with this body would pass
 abbrev pub passed_by : State → Text → Text → Option Limit
-passed_by state name body = if nat_lt 32768 (length body) then Some Body else if is_there state name then None else full_for state name
+passed_by state name body = if nat_lt 32768 (length body) then Some Body else if has_secret state name then None else full_for state name
 
 -- sealed for these ids, unless the tool does not know one of them
 abbrev pub insert_sealed : Text → Text → State → Ids → Option ℕ → Plan
@@ -51,7 +51,7 @@ insert_within ring name body state events ids None =
 abbrev pub insert_ruled : Ring → Text → Text → Bool → State → Events → Option Ids → Plan
 insert_ruled ring name body force state events None = answers (refused 7 (no_rule_for name))
 insert_ruled ring name body force state events (Some ids) =
-    if not force && is_there state name then answers (refused 4 (is_there_already name))
+    if not force && has_secret state name then answers (refused 4 (is_there_already name))
     else insert_within ring name body state events ids (passed_by state name body)
 
 -- `insert` seals the body for the ids that govern the name, in one commit, and prints nothing

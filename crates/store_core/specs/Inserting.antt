@@ -12,14 +12,14 @@ use Rattle.pending_journal.specs.declared.vault.CommitFault.TheVariants.{Disk as
 use Rattle.pending_journal.specs.Change.{puts_in}
 use Rattle.recipient_files.specs.Ids.{Ids}
 use Rattle.cipher_port.specs.Tool.{Opens, Ring, made_of, first_unknown}
-use Rattle.store_core.specs.declared.fault.Limit.{Limit}
-use Rattle.store_core.specs.declared.fault.Limit.TheVariants.{Secrets, Body, Files}
-use Rattle.store_core.specs.declared.opening.Found.{Found}
+use Rattle.store_state.specs.declared.fault.Limit.{Limit}
+use Rattle.store_state.specs.declared.fault.Limit.TheVariants.{Secrets, Body, Files}
+use Rattle.store_state.specs.declared.opening.Found.{Found}
 use Rattle.store_core.specs.declared.grown.Grown.{Grown}
 use Rattle.store_core.specs.declared.refusal.Refusal.{Refusal}
 use Rattle.store_core.specs.declared.refusal.Refusal.TheVariants.{NoRule, Exists, Full, UnknownId, Tool, Disk, NoMemory}
 use Rattle.store_core.specs.Insert.{one_more}
-use Rattle.store_core.specs.Order.{IsRising}
+use Rattle.gopass_base.specs.Order.{IsRising}
 
 -- what a fault of a commit makes a command answer
 abbrev pub refusal_by_commit : CommitFault → Refusal

@@ -1,14 +1,5 @@
-pub mod Places
-pub mod RuleFiles
-pub mod State
-pub mod Found
-pub mod Tree
-pub mod Survey
-pub mod Opening
 pub mod Stores
 pub mod Reads
-pub mod Order
-pub mod Faults
 pub mod Texts
 pub mod Said
 pub mod Events
@@ -22,3 +13,4 @@ pub mod Insert
 pub mod Grown
 pub mod Inserting
 pub mod Kept
+pub mod Elsewhere

@@ -5,11 +5,11 @@ use Rattle.gopass_base.specs.Faults.{Rose}
 use Rattle.disk_model.specs.Files.{Files}
 use Rattle.disk_model.specs.Disk.{Rests}
 use Rattle.disk_model.specs.Runs.{Leaves}
-use Rattle.pending_journal.specs.Redo.{StandsFor as StandsForFiles}
+use Rattle.pending_journal.specs.Redo.{RecoversTo}
 use Rattle.cipher_port.specs.Tool.{Opens}
-use Rattle.store_core.specs.State.{State, StandsFor}
+use Rattle.store_state.specs.State.{State, StandsFor}
 use Rattle.store_core.specs.Said.{Said, Plan, refused, unsaid}
-use Rattle.store_core.specs.Events.{Events, named, Cause, TheDisk, Memory, Stop}
+use Rattle.store_core.specs.Events.{Events, failed_names, Cause, TheDisk, Memory, Stop}
 use Rattle.store_core.specs.Moment.{Faults, Moment}
 
 -- a count that stands at its last value rose by n, and by no more
@@ -23,7 +23,7 @@ RoseBy before n now = min (before + n) (2 ^ 64 - 1) ≤ now
 
 -- each part of the events, and a stop, is tied to what happened: a tool failed for each name, and the disk for its stop
 pub record IsTied (old new : Faults) (events : Events) (stop : Option Stop) : Type 0 where
-  pub tools : RoseBy old.tools (length (named events)) new.tools
+  pub tools : RoseBy old.tools (length (failed_names events)) new.tools
   pub disk : (n : ℕ) → stop ≡ Some (record { cause = TheDisk; commits = n }) → Rose old.disk new.disk
 
 -- what is said where a turn stopped
@@ -32,9 +32,9 @@ stop_said TheDisk = refused 12 (codes "the disk failed")
 stop_said Memory = unsaid
 
 -- a stop cuts a plan off: of its states there are those that were answered, and the next
-abbrev pub cut : Option Stop → Plan → Plan
-cut None plan = plan
-cut (Some stop) plan = record { said = stop_said stop.cause; states = take (stop.commits + 1) plan.states; calls = plan.calls; records = [] }
+abbrev pub cut_off : Option Stop → Plan → Plan
+cut_off None plan = plan
+cut_off (Some stop) plan = record { said = stop_said stop.cause; states = take (stop.commits + 1) plan.states; calls = plan.calls; records = [] }
 
 -- the number of commits that were answered
 abbrev pub answered : Option Stop → Plan → ℕ
@@ -49,7 +49,7 @@ state_at start (s ∷ states) (suc n) = state_at s states n
 
 -- files that a crash left stand for the state: the files for which they stand do
 abbrev pub LeftFor : Opens → Text → State → Files → Type 0
-LeftFor opens root state m = (after : Files) × StandsForFiles root m after × StandsFor opens root after state
+LeftFor opens root state m = (after : Files) × RecoversTo root m after × StandsFor opens root after state
 
 -- for one of the states passed, from the start on
 abbrev pub IsPassed : Opens → Text → State → List State → Files → Type 0
@@ -74,6 +74,6 @@ pub record Performs (opens : Opens) (root : Text) (plan : Events → Plan) (star
   pub events : Events
   pub stop : Option Stop
   pub tied : IsTied old.faults new.faults events stop
-  pub says : said ≡ (cut stop (plan events)).said
-  pub goes : Goes opens root start (cut stop (plan events)).states (answered stop (plan events)) old new
+  pub says : said ≡ (cut_off stop (plan events)).said
+  pub goes : Goes opens root start (cut_off stop (plan events)).states (answered stop (plan events)) old new
   pub calls : new.calls ≤ old.calls + (plan events).calls

@@ -27,22 +27,22 @@ status_of Disk = 12
 status_of NoMemory = 14
 
 -- the text, where the command was asked for this
-abbrev pub text_of : Text → Refusal → Text
-text_of asked NotFound = not_in_the_store asked
-text_of asked IsFolder = is_a_folder asked
-text_of asked Exists = is_there_already asked
-text_of asked NoRule = no_rule_for asked
-text_of asked (UnknownId id) = not_known id
-text_of asked (Full limit) = limit_passed limit
-text_of asked (NoKey name) = no_key name
-text_of asked (NotSealed name) = not_sealed name
-text_of asked (Tool name) = tool_failed name
-text_of asked Disk = codes "the disk failed"
-text_of asked NoMemory = codes "out of memory"
+abbrev pub refusal_text : Text → Refusal → Text
+refusal_text asked NotFound = not_in_the_store asked
+refusal_text asked IsFolder = is_a_folder asked
+refusal_text asked Exists = is_there_already asked
+refusal_text asked NoRule = no_rule_for asked
+refusal_text asked (UnknownId id) = not_known id
+refusal_text asked (Full limit) = limit_passed limit
+refusal_text asked (NoKey name) = no_key name
+refusal_text asked (NotSealed name) = not_sealed name
+refusal_text asked (Tool name) = tool_failed name
+refusal_text asked Disk = codes "the disk failed"
+refusal_text asked NoMemory = codes "out of memory"
 
 -- what is said of a refusal; want of memory has no bytes
 abbrev pub refusal_said : Text → Refusal → Said
-refusal_said asked refusal = if status_of refusal == 14 then unsaid else refused (status_of refusal) (text_of asked refusal)
+refusal_said asked refusal = if status_of refusal == 14 then unsaid else refused (status_of refusal) (refusal_text asked refusal)
 
 -- what is said of an outcome, by what is printed of a good one
 abbrev pub said_by : {T : Type 0} → Text → (T → Text) → Result T Refusal → Said

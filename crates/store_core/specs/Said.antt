@@ -1,7 +1,7 @@
 -- What a command answers, and what it leaves.
 use Rattle.std.specs.Prelude.{ℕ, List, []}
 use Rattle.gopass_base.specs.Text.{Text}
-use Rattle.store_core.specs.State.{State}
+use Rattle.store_state.specs.State.{State}
 use Rattle.store_core.specs.Texts.{err_line}
 
 -- the status, and the bytes for standard output and standard error

@@ -4,8 +4,8 @@ use Rattle.std.specs.List.{list_any}
 use Rattle.std.specs.FinMap as map
 use Rattle.gopass_base.specs.Text.{Text}
 use Rattle.mount_table.specs.MountOf.{holds}
-use Rattle.cipher_port.specs.Tool.{Ring, holds_one_of}
-use Rattle.store_core.specs.State.{State, Cell, Sealed, Broken}
+use Rattle.cipher_port.specs.Tool.{Ring, has_key_of}
+use Rattle.store_state.specs.State.{State, Cell, Sealed, Broken}
 use Rattle.store_core.specs.Said.{Said, Plan, granted, refused, answers, answers_by_tool}
 use Rattle.store_core.specs.Texts.{not_in_the_store, is_a_folder, no_key, not_sealed, tool_failed}
 use Rattle.store_core.specs.Events.{Events, is_refused}
@@ -24,7 +24,7 @@ missing name names = refused 3 (if holds_one name names then is_a_folder name el
 
 -- the body, where a key is held for it
 abbrev pub shown : Ring → Text → Cell → Said
-shown ring name (Sealed content) = if holds_one_of ring content.to then granted content.body else refused 8 (no_key name)
+shown ring name (Sealed content) = if has_key_of ring content.to then granted content.body else refused 8 (no_key name)
 shown ring name (Broken bytes) = refused 8 (not_sealed name)
 
 -- what is planned of a secret, or of none

@@ -4,10 +4,10 @@ ghost use Rattle.std.specs.Prelude.{◌≡◌, ◌<◌, ◌≤◌, [], ◌∷◌
 ghost use Rattle.store_core.specs.Insert.{one_more};
 ghost use Rattle.store_core.specs.Inserting.{IsGrownFor, TakesOver};
 
-use crate::opening::Found;
 use gopass_base::NoMemory;
 use mount_table::Name;
 use std::alloc::Global;
+use store_state::Found;
 
 /// The names, and the numbers of files below the directories of the mounts.
 #[derive(Debug, Drop)]

@@ -4,13 +4,15 @@ ghost use Rattle.std.specs.Prelude.{◌≡◌, ◌≢◌, ◌≤◌, [], length,
 ghost use Rattle.gopass_base.specs.Text.{Text};
 ghost use Rattle.gopass_base.specs.Faults.{HasCause, counted};
 ghost use Rattle.path_rules.specs.Governing.{governing_ids};
+ghost use Rattle.disk_model.specs.Runs.{Leaves};
+ghost use Rattle.store_state.specs.Places.{secret_path};
+ghost use Rattle.store_core.specs.Elsewhere.{IsSameElsewhere};
 ghost use Rattle.store_core.specs.Moment.{one_tool};
 ghost use Rattle.store_core.specs.Does.{Does, Keeps};
 ghost use Rattle.store_core.specs.Refusals.{said_by};
 ghost use Rattle.store_core.specs.Insert.{plan_insert};
 ghost use Rattle.store_core.specs.Inserting.{IsPutOf, IsTested, IsUnruled, SealsBody};
 
-use crate::fault::Limit;
 use crate::grown::{take_over, with_secret};
 use crate::reads::is_among;
 use crate::refusal::Refusal;
@@ -22,15 +24,10 @@ use mount_table::Name;
 use pending_journal::Change;
 use recipient_files::Recipients;
 use std::alloc::Global;
+use store_state::{Limit, MOST_FILES, MOST_SECRETS};
 
 /// The most bytes of a body.
 const MOST_BODY: usize = 32_768;
-
-/// The most secrets of a store.
-const MOST_SECRETS: usize = 8_192;
-
-/// The most files below the directory of a mount.
-const MOST_FILES: usize = 40_000;
 
 /// The body sealed for these recipients.
 fn seal_body<C: Cipher>(
@@ -113,7 +110,7 @@ impl<D: Disk> Store<D> {
 
     /// Seals the body for the recipients of the name and puts it into the file of the secret, in one
     /// commit. A secret that is there is written over with `force` alone. The tool is called
-    /// once at most.
+    /// once at most, and no other file than that of the secret is changed.
     pub fn insert<C: Cipher>(
         &mut self,
         alloc: Global,
@@ -127,6 +124,8 @@ impl<D: Disk> Store<D> {
             (said_by name.now (λ done. []) result) }
         ensures keeps { Keeps 1 self.old self.new (one_tool C.meaning tool.old) (one_tool C.meaning tool.new)
             (said_by name.now (λ done. []) result).status }
+        ensures elsewhere { D.meaning.tells → Leaves (IsSameElsewhere self.old.vault.root (secret_path self.old.found.mounts name.now) (D.meaning.view self.old.vault.disk).files)
+            (D.meaning.view self.old.vault.disk) (D.meaning.view self.new.vault.disk) }
     {
         let ids = self.rule_for(name)?;
         self.test(name, body, force)?;

@@ -5,10 +5,10 @@ ghost use Rattle.gopass_base.specs.Faults.{HasCause};
 ghost use Rattle.mount_table.specs.Prefixes.{Holds};
 ghost use Rattle.mount_table.specs.MountOf.{holds};
 ghost use Rattle.disk_model.specs.Disk.{Rests};
-ghost use Rattle.store_core.specs.Order.{IsRising};
+ghost use Rattle.gopass_base.specs.Order.{IsRising};
 ghost use Rattle.store_core.specs.Reads.{ReadsAt, rows_under};
 ghost use Rattle.store_core.specs.Show.{holds_one};
-ghost use Rattle.store_core.specs.Stores.{IsSame};
+ghost use Rattle.store_core.specs.Stores.{IsSameStore};
 
 use crate::store::Store;
 use disk_model::{Disk, DiskFault, Got};
@@ -30,7 +30,7 @@ impl<D: Disk> Store<D> {
     /// The file under the path, or None where there is none or it has more than 131,072 bytes: such a
     /// file is not sealed.
     pub fn read_at(&mut self, path: &FilePath) -> Result<Option<Vec<u8>>, DiskFault>
-        ensures same { IsSame self.old self.new }
+        ensures same { IsSameStore self.old self.new }
         ensures rests { D.meaning.tells → Rests (D.meaning.view self.old.vault.disk) (D.meaning.view self.new.vault.disk) }
         ensures read { IfOk result (λ bytes. D.meaning.tells → ReadsAt self.old.vault.root (D.meaning.view self.old.vault.disk).files path.now bytes) }
         ensures cause { HasCause (D.meaning.faults self.old.vault.disk) (D.meaning.faults self.new.vault.disk) (result ≡ Err DiskFault.Failed) }

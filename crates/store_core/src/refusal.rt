@@ -3,13 +3,13 @@
 ghost use Rattle.std.specs.Prelude.{◌≡◌};
 ghost use Rattle.store_core.specs.declared.refusal.Refusal.TheVariants.{NoMemory as no_memory};
 
-use crate::fault::Limit;
 use disk_model::DiskFault;
 use gopass_base::NoMemory;
 use mount_table::Name;
 use pending_journal::CommitFault;
 use recipient_files::Id;
 use std::alloc::AllocError;
+use store_state::Limit;
 
 /// Why a command is refused. The names are those of secrets.
 #[derive(Debug, Drop)]

@@ -1,7 +1,6 @@
 use super::*;
-use crate::folder_file::folder_file;
 use disk_model::MemDisk;
-use mount_table::{DirPath, FilePath, Folder, Mounts, Name};
+use mount_table::{DirPath, FilePath, Folder, Name};
 use pending_journal::{Vault, VaultOpened};
 use std::test::*;
 
@@ -9,9 +8,9 @@ fn path(rt: &HostRuntime, text: &str) -> Result<FilePath, Fail> {
     Ok(FilePath::read(rt.alloc(), text)?)
 }
 
-pub(crate) type File<'a> = (&'a str, &'a [u8]);
+type File<'a> = (&'a str, &'a [u8]);
 
-pub(crate) fn disk(rt: &HostRuntime, files: &[File]) -> Result<MemDisk, Fail> {
+fn disk(rt: &HostRuntime, files: &[File]) -> Result<MemDisk, Fail> {
     let mut list = Vec::new(rt.alloc());
     for (text, bytes) in files {
         list.push((path(rt, text)?, bytes.to_vec(rt.alloc())?))?;
@@ -28,7 +27,7 @@ fn opened(rt: &HostRuntime, disk: MemDisk) -> Result<StoreOpened<MemDisk>, Fail>
     }
 }
 
-pub(crate) fn store(rt: &HostRuntime, disk: MemDisk) -> Result<Store<MemDisk>, Fail> {
+fn store(rt: &HostRuntime, disk: MemDisk) -> Result<Store<MemDisk>, Fail> {
     match opened(rt, disk)? {
         StoreOpened::Ready(store) => Ok(store),
         StoreOpened::Refused(fault, _) => Err(Fail::from(fault)),
@@ -43,7 +42,7 @@ fn fault(rt: &HostRuntime, disk: MemDisk) -> Result<String, Fail> {
     }
 }
 
-pub(crate) fn names(rt: &HostRuntime, names: &[Name]) -> Result<String, Fail> {
+fn names(rt: &HostRuntime, names: &[Name]) -> Result<String, Fail> {
     let mut text = String::new(rt.alloc());
     for name in names {
         text.push_str(name.text())?;
@@ -52,7 +51,7 @@ pub(crate) fn names(rt: &HostRuntime, names: &[Name]) -> Result<String, Fail> {
     Ok(text)
 }
 
-pub(crate) fn folders(rt: &HostRuntime, folders: &[Folder]) -> Result<String, Fail> {
+fn folders(rt: &HostRuntime, folders: &[Folder]) -> Result<String, Fail> {
     let mut text = String::new(rt.alloc());
     for folder in folders {
         text.push('/')?;
@@ -62,7 +61,7 @@ pub(crate) fn folders(rt: &HostRuntime, folders: &[Folder]) -> Result<String, Fa
     Ok(text)
 }
 
-pub(crate) fn paths(rt: &HostRuntime, paths: &[FilePath]) -> Result<String, Fail> {
+fn paths(rt: &HostRuntime, paths: &[FilePath]) -> Result<String, Fail> {
     let mut text = String::new(rt.alloc());
     for path in paths {
         text.push_str(path.text())?;
@@ -186,26 +185,6 @@ fn the_nearest_rule_of_the_mount_governs(rt: HostRuntime) -> Result<(), Fail> {
 }
 
 #[test]
-fn files_of_folders(rt: HostRuntime) -> Result<(), Fail> {
-    let root = DirPath::read(rt.alloc(), "root")?;
-    let mounts = Mounts::read(rt.alloc(), b"\troot\tplain\nwork\tw\tplain\n", &root)?;
-    for (text, rule, template) in [
-        ("/", "root/.gpg-id", "root/.pass-template"),
-        ("a/b", "root/a/b/.gpg-id", "root/a/b/.pass-template"),
-        ("work", "w/.gpg-id", "w/.pass-template"),
-        ("work/x", "w/x/.gpg-id", "w/x/.pass-template"),
-        ("workx", "root/workx/.gpg-id", "root/workx/.pass-template"),
-    ] {
-        let folder = Folder::read(rt.alloc(), text)?;
-        let path = folder_file(rt.alloc(), &mounts, &folder, ".gpg-id")?;
-        assert_eq!(rt; path.text(), rule, "{text}");
-        let path = folder_file(rt.alloc(), &mounts, &folder, ".pass-template")?;
-        assert_eq!(rt; path.text(), template, "{text}");
-    }
-    Ok(())
-}
-
-#[test]
 fn a_file_is_read_up_to_its_limit(rt: HostRuntime) -> Result<(), Fail> {
     let longest = "x".repeat(rt.alloc(), 131_072)?;
     let longer = "x".repeat(rt.alloc(), 131_073)?;
@@ -226,75 +205,12 @@ fn a_file_is_read_up_to_its_limit(rt: HostRuntime) -> Result<(), Fail> {
 }
 
 #[test]
-fn files_that_refuse_the_opening(rt: HostRuntime) -> Result<(), Fail> {
-    let long = "\n".repeat(rt.alloc(), 131_073)?;
-    let bad: File = ("root/.gopass-mounts", b"\troot\tplain\nwork\tw\tplane\n");
-    let empty: File = ("root/.gopass-mounts", b"");
-    let over: File = ("root/.gopass-mounts", long.as_bytes());
-    let pending: File = ("root/.gopass-pending", b"pending 1 1\n");
-    let secret: File = ("root/a.gpg", b"");
-    let rows: [(&[File], &str); 6] = [
-        (&[secret], "none"),
-        (
-            &[bad],
-            "BadFile(FilePath { text: \"root/.gopass-mounts\" }, 2)",
-        ),
-        (
-            &[empty],
-            "BadFile(FilePath { text: \"root/.gopass-mounts\" }, 1)",
-        ),
-        (
-            &[over],
-            "BadFile(FilePath { text: \"root/.gopass-mounts\" }, 0)",
-        ),
-        (
-            &[pending],
-            "BadFile(FilePath { text: \"root/.gopass-pending\" }, 1)",
-        ),
-        (
-            &[bad, pending],
-            "BadFile(FilePath { text: \"root/.gopass-mounts\" }, 2)",
-        ),
-    ];
-    for (files, told) in rows {
-        assert_eq!(rt; fault(&rt, disk(&rt, files)?)?.as_str(), told);
-    }
-    Ok(())
-}
-
-#[test]
 fn a_failing_call_refuses_the_opening(rt: HostRuntime) -> Result<(), Fail> {
     for call in [6u64, 7, 8, 9, 10, 11] {
         let mut disk = disk(&rt, TREE)?;
         disk.fail_at(vec![in rt.alloc(); call]?);
         assert_eq!(rt; fault(&rt, disk)?.as_str(), "Disk", "{call}");
     }
-    Ok(())
-}
-
-/// A disk with so many files of this ending in the root directory.
-fn many(rt: &HostRuntime, count: usize, ending: &str) -> Result<MemDisk, Fail> {
-    let mut list = Vec::new(rt.alloc());
-    for number in 100_000..count.saturating_add(100_000) {
-        let text = format!(in rt.alloc(); "root/{number}{ending}")?;
-        list.push((path(rt, &text)?, Vec::new(rt.alloc())))?;
-    }
-    Ok(MemDisk::new(rt.alloc(), list)?)
-}
-
-#[test]
-fn secrets_over_the_limit(rt: HostRuntime) -> Result<(), Fail> {
-    assert_eq!(rt; fault(&rt, many(&rt, 8192, ".gpg")?)?.as_str(), "none");
-    assert_eq!(rt;
-        fault(&rt, many(&rt, 8193, ".gpg")?)?.as_str(),
-        "Full(Secrets)"
-    );
-    Ok(())
-}
-
-#[test]
-fn files_over_the_limit(rt: HostRuntime) -> Result<(), Fail> {
-    assert_eq!(rt; fault(&rt, many(&rt, 40_001, "")?)?.as_str(), "Full(Files)");
     Ok(())
 }
 

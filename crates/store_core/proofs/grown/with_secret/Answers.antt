@@ -5,7 +5,7 @@ use Rattle.std.specs.Ordering.{nat_cmp}
 use Rattle.std.specs.Cmp.Lexicographic.{slice_cmp}
 use Rattle.gopass_base.specs.Text.{Text}
 use Rattle.store_core.specs.Insert.{one_more}
-use Rattle.store_core.proofs.OrderLemmas.{found_by_search}
+use Rattle.store_state.proofs.OrderLemmas.{found_by_search}
 use Rattle.store_core.proofs.grown.with_secret.Goals as goal
 
 pub returns-in-Ok : goal.returns-in-Ok

@@ -14,18 +14,20 @@ use Rattle.path_rules.specs.Governing.{governing_ids}
 use Rattle.recipient_files.specs.Ids.{Ids}
 use Rattle.cipher_port.specs.Tool.{Ring, made_of}
 use Rattle.store_core.specs.Moment.{Moment, moment_of, one_tool}
-use Rattle.store_core.specs.Opening.{IsFound}
+use Rattle.store_state.specs.Opening.{IsFound}
 use Rattle.store_core.specs.Performs.{Performs}
-use Rattle.store_core.specs.Places.{secret_path}
-use Rattle.store_core.specs.State.{Sealed}
-use Rattle.store_core.specs.Insert.{plan_insert, is_there}
+use Rattle.store_state.specs.Places.{secret_path}
+use Rattle.store_state.specs.State.{Sealed}
+use Rattle.store_core.specs.Insert.{plan_insert, has_secret}
 use Rattle.store_core.specs.Inserting.{refusal_by_commit, IsTested, SealsBody, limit_by}
 use Rattle.store_core.specs.declared.refusal.Refusal.{Refusal}
 use Rattle.store_core.specs.declared.refusal.Refusal.TheVariants.{Tool, Disk, NoMemory}
-use Rattle.store_core.proofs.AgreeLemmas.{mounts_agree, table_agrees}
+use Rattle.store_state.proofs.AgreeLemmas.{mounts_agree, table_agrees}
 use Rattle.store_core.proofs.PerformLemmas.{Still, still_same}
 use Rattle.store_core.proofs.InsertLemmas.{insert_no_memory_then, insert_done, insert_broken, rose_since, never_stuck}
-use Rattle.store_core.proofs.InsertFacts.{ids_are, there_is, way_is, limit_is, insert_unruled, insert_tested, insert_unsealed, change_puts, secret_file, sizes_inserted, taken_is_found, commit_keeps, room_by}
+use Rattle.store_core.proofs.InsertFacts.{ids_are, there_is, way_is, limit_is, insert_unruled, insert_tested, insert_unsealed, change_puts, secret_file, sizes_inserted, taken_is_found, commit_keeps}
+use Rattle.store_core.proofs.RoomLemmas.{room_by}
+use Rattle.store_core.proofs.ElsewhereLemmas.{put_elsewhere, rest_elsewhere}
 use Rattle.store_core.proofs.store.Store.insert.Goals as goal
 
 pub returns-in_err-ids-clause-planned : goal.returns-in_err-ids-clause-planned
@@ -148,7 +150,7 @@ returns-in_err-commit-clause-planned g c told tells ring have start s =
     let after = changed change files in
     let path : put_is.path ≡ secret_path start.mounts name = secret_file (root_of self.found.mounts) self.found.mounts name put_is.path put_is.table put_is.file ∙ ap (λ rows. secret_path rows name) (sym mounts) in
     let after_is : after ≡ put files (secret_path start.mounts name) (Some sealed) = change_puts change files put_is.path sealed put_is.puts put_is.drops ∙ ap (λ q. put files q (Some sealed)) path in
-    let has_room = room_by body (is_there start name) (map.len start.rows) (slice_index_or start.sizes (mount_of start.mounts name) 0) room in
+    let has_room = room_by body (has_secret start name) (map.len start.rows) (slice_index_or start.sizes (mount_of start.mounts name) 0) room in
     let sizes = sizes_inserted opens root files after start name sealed (Sealed (made_of ids body)) s table put_is.good after_is has_room.files_few in
     let run = c.commit.ensures.any_moment c.requires.free told in
     let new : Moment = record {
@@ -223,7 +225,7 @@ returns-clause-planned g c told tells ring have start s =
     let after = changed change files in
     let path : put_is.path ≡ secret_path start.mounts name = secret_file (root_of self.found.mounts) self.found.mounts name put_is.path put_is.table put_is.file ∙ ap (λ rows. secret_path rows name) (sym mounts) in
     let after_is : after ≡ put files (secret_path start.mounts name) (Some sealed) = change_puts change files put_is.path sealed put_is.puts put_is.drops ∙ ap (λ q. put files q (Some sealed)) path in
-    let has_room = room_by body (is_there start name) (map.len start.rows) (slice_index_or start.sizes (mount_of start.mounts name) 0) room in
+    let has_room = room_by body (has_secret start name) (map.len start.rows) (slice_index_or start.sizes (mount_of start.mounts name) 0) room in
     let sizes = sizes_inserted opens root files after start name sealed (Sealed (made_of ids body)) s table put_is.good after_is has_room.files_few in
     let run = c.commit.ensures.any_moment c.requires.free told in
     let new : Moment = record {
@@ -235,3 +237,54 @@ returns-clause-planned g c told tells ring have start s =
     } in
     insert_done opens root ring name body c.args.force start old mid new s still table put_is.good ids ruled fresh room seals.1 sealed seals.0 after after_is sizes run
     (c.in_ok-commit.ensures.made told) c.in_ok-commit.ensures.counted c.seal_body.ensures.cause.later (omega (arith, c.seal_body.ensures.calls))
+
+pub returns-in_err-ids-clause-elsewhere : goal.returns-in_err-ids-clause-elsewhere
+returns-in_err-ids-clause-elsewhere g c told =
+    let self = c.args.self.now in
+    rest_elsewhere self.vault.root (secret_path self.found.mounts c.args.name.now) (g.D.Disk.meaning.view self.vault.disk) (self.vault.at_rest c.requires.free told)
+
+pub returns-in_err-test-clause-elsewhere : goal.returns-in_err-test-clause-elsewhere
+returns-in_err-test-clause-elsewhere g c told =
+    let self = c.args.self.now in
+    rest_elsewhere self.vault.root (secret_path self.found.mounts c.args.name.now) (g.D.Disk.meaning.view self.vault.disk) (self.vault.at_rest c.requires.free told)
+
+pub returns-in_err-sealed-clause-elsewhere : goal.returns-in_err-sealed-clause-elsewhere
+returns-in_err-sealed-clause-elsewhere g c told =
+    let self = c.args.self.now in
+    rest_elsewhere self.vault.root (secret_path self.found.mounts c.args.name.now) (g.D.Disk.meaning.view self.vault.disk) (self.vault.at_rest c.requires.free told)
+
+pub returns-in_err-grown-clause-elsewhere : goal.returns-in_err-grown-clause-elsewhere
+returns-in_err-grown-clause-elsewhere g c told =
+    let self = c.args.self.now in
+    rest_elsewhere self.vault.root (secret_path self.found.mounts c.args.name.now) (g.D.Disk.meaning.view self.vault.disk) (self.vault.at_rest c.requires.free told)
+
+pub returns-in_err-change-clause-elsewhere : goal.returns-in_err-change-clause-elsewhere
+returns-in_err-change-clause-elsewhere g c told =
+    let self = c.args.self.now in
+    rest_elsewhere self.vault.root (secret_path self.found.mounts c.args.name.now) (g.D.Disk.meaning.view self.vault.disk) (self.vault.at_rest c.requires.free told)
+
+pub returns-in_err-commit-clause-elsewhere : goal.returns-in_err-commit-clause-elsewhere
+returns-in_err-commit-clause-elsewhere g c told =
+    let self = c.args.self.now in
+    let root = self.vault.root in
+    let name = c.args.name.now in
+    let old = g.D.Disk.meaning.view self.vault.disk in
+    let change = c.in_ok-change.change in
+    let put_is = c.in_ok-change.ensures in
+    let sealed = c.in_ok-sealed.sealed.items in
+    let path : put_is.path ≡ secret_path self.found.mounts name = secret_file (root_of self.found.mounts) self.found.mounts name put_is.path put_is.table put_is.file in
+    let after_is : changed change old.files ≡ put old.files (secret_path self.found.mounts name) (Some sealed) = change_puts change old.files put_is.path sealed put_is.puts put_is.drops ∙ ap (λ q. put old.files q (Some sealed)) path in
+    put_elsewhere root (secret_path self.found.mounts name) sealed old (g.D.Disk.meaning.view c.commit.new.self.disk) (changed change old.files) after_is (c.commit.ensures.any_moment c.requires.free told)
+
+pub returns-clause-elsewhere : goal.returns-clause-elsewhere
+returns-clause-elsewhere g c told =
+    let self = c.args.self.now in
+    let root = self.vault.root in
+    let name = c.args.name.now in
+    let old = g.D.Disk.meaning.view self.vault.disk in
+    let change = c.in_ok-change.change in
+    let put_is = c.in_ok-change.ensures in
+    let sealed = c.in_ok-sealed.sealed.items in
+    let path : put_is.path ≡ secret_path self.found.mounts name = secret_file (root_of self.found.mounts) self.found.mounts name put_is.path put_is.table put_is.file in
+    let after_is : changed change old.files ≡ put old.files (secret_path self.found.mounts name) (Some sealed) = change_puts change old.files put_is.path sealed put_is.puts put_is.drops ∙ ap (λ q. put old.files q (Some sealed)) path in
+    put_elsewhere root (secret_path self.found.mounts name) sealed old (g.D.Disk.meaning.view c.commit.new.self.disk) (changed change old.files) after_is (c.commit.ensures.any_moment c.requires.free told)

@@ -9,7 +9,7 @@ use Rattle.store_core.specs.Refusals.{refusal_said}
 use Rattle.store_core.specs.Show.{plan_show, names_of}
 use Rattle.store_core.specs.Unsealing.{Shows, why_missing}
 use Rattle.store_core.specs.declared.refusal.Refusal.{Refusal}
-use Rattle.store_core.proofs.AgreeLemmas.{keys_agree, among_keys}
+use Rattle.store_state.proofs.AgreeLemmas.{keys_agree, among_keys}
 use Rattle.store_core.proofs.PerformLemmas.{Still, still_same}
 use Rattle.store_core.proofs.ShowLemmas.{show_missing, show_no_memory, show_fault, show_given, named, file_there, vault_file, not_sealed_shows, not_sealed_no_tool}
 use Rattle.store_core.proofs.store.Store.show.Goals as goal

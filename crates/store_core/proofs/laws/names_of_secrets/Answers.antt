@@ -1,5 +1,0 @@
-use Rattle.store_core.proofs.NameLemmas.{names_found}
-use Rattle.store_core.proofs.laws.names_of_secrets.Goals as goal
-
-pub returns : goal.returns
-returns c = λ root files found is. names_found root files found is.table is

@@ -1,0 +1,16 @@
+use Rattle.std.proofs.Common.{◌≤◌, take}
+use Rattle.std.specs.FinMap as map
+use Rattle.disk_model.specs.Disk.{Rests}
+use Rattle.pending_journal.specs.Opened.{IsSameVault}
+use Rattle.store_state.specs.RuleFiles.{AreRules}
+use Rattle.store_state.proofs.rule_files.read_rules.Given as goal
+
+abbrev pub invariant-loop-folder : goal.invariant-loop-folder
+invariant-loop-folder g l =
+    let disk = g.D.Disk.meaning in
+    record {
+      kept : IsSameVault l.fn.vault l.vault;
+      later : disk.faults l.fn.vault.disk ≤ disk.faults l.vault.disk;
+      few : map.len l.rules ≤ l.folder-index;
+      told : disk.tells → Rests (disk.view l.fn.vault.disk) (disk.view l.vault.disk) × AreRules l.fn.vault.root (disk.view l.fn.vault.disk).files l.mounts (take l.folder-index l.folders) l.rules;
+    }

@@ -1,0 +1,9 @@
+pub mod Places
+pub mod RuleFiles
+pub mod State
+pub mod Found
+pub mod Tree
+pub mod Survey
+pub mod Opening
+pub mod Order
+pub mod Faults

@@ -1,0 +1,78 @@
+//! The files that a folder of the store has of its own: its rule and its template.
+
+ghost use Rattle.std.specs.Prelude.{◌≡◌, ℕ, IfOk, string_bytes};
+ghost use Rattle.mount_table.specs.Mounts.{IsMountOfFolder};
+ghost use Rattle.mount_table.specs.Paths.{IsDirPath, IsFilePath, path_in};
+ghost use Rattle.mount_table.specs.Prefixes.{IsPrefix, folder_parts};
+ghost use Rattle.store_state.specs.Places.{IsFolderFile, folder_path, folder_rest, in_folder};
+
+use disk_model::rest_in;
+use gopass_base::NoMemory;
+use mount_table::{DirPath, FilePath, Folder, Mounts, PathFault, Row};
+use std::alloc::{AllocError, Global};
+
+/// What stands in the folder behind the alias of its mount and a slash. The folder of the alias
+/// itself has no such rest.
+fn rest_below<'a>(alias: &str, folder: &'a str) -> &'a str
+    requires { IsPrefix (folder_parts alias.now) (folder_parts folder.now) }
+    ensures { result.now ≡ folder_rest alias.now folder.now }
+{
+    if alias.is_empty() {
+        return folder;
+    }
+    match rest_in(alias, folder) {
+        Some(rest) => rest,
+        None => "",
+    }
+}
+
+/// A file of a folder, by the folder's rest below a mount.
+fn in_folder(alloc: Global, rest: &str, file: &str) -> Result<String, AllocError>
+    ensures { IfOk result (λ text. string_bytes text ≡ in_folder rest.now file.now) }
+{
+    if rest.is_empty() {
+        return String::from_str(alloc, file);
+    }
+    let mut text = String::from_str(alloc, rest)?;
+    text.push('/')?;
+    text.push_str(file)?;
+    Ok(text)
+}
+
+/// The path of what lies in the directory, where it is known to be the path of a file.
+fn join_good(alloc: Global, dir: &DirPath, rest: &str) -> Result<FilePath, NoMemory>
+    requires { IsDirPath dir.now → IsFilePath (path_in dir.now rest.now) }
+    ensures { IfOk result (λ path. path ≡ path_in dir.now rest.now) }
+{
+    match dir.join(alloc, rest) {
+        Ok(path) => Ok(path),
+        Err(PathFault::NoMemory) => Err(NoMemory),
+        Err(PathFault::Bad) => unreachable!(),
+    }
+}
+
+/// The path of the folder's file of this name below the mount of this row.
+fn file_below(alloc: Global, row: &Row, folder: &Folder, file: &str) -> Result<FilePath, NoMemory>
+    requires reaches { IsPrefix (folder_parts row.now.alias) (folder_parts folder.now) }
+    requires file { IsFolderFile file.now }
+    ensures { IfOk result (λ path. path ≡ path_in row.now.dir (in_folder (folder_rest row.now.alias folder.now) file.now)) }
+{
+    let rest = rest_below(row.alias.text(), folder.text());
+    join_good(alloc, &row.dir, &in_folder(alloc, rest, file)?)
+}
+
+/// The path of the folder's file of this name, that of its rule or its template: the directory of
+/// the folder's mount, `/`, the folder's rest behind the alias of the mount with a `/` behind it,
+/// where it has one, and the name. Only memory can be wanting.
+pub(crate) fn folder_file(
+    alloc: Global,
+    mounts: &Mounts,
+    folder: &Folder,
+    file: &str,
+) -> Result<FilePath, NoMemory>
+    requires { IsFolderFile file.now }
+    ensures { IfOk result (λ path. (k : ℕ) × IsMountOfFolder mounts.now folder.now k × (path ≡ folder_path mounts.now k folder.now file.now)) }
+{
+    let rows = mounts.rows();
+    file_below(alloc, &rows[mounts.resolve_folder(folder)], folder, file)
+}

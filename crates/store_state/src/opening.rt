@@ -1,0 +1,190 @@
+//! What an opening finds.
+
+ghost use Rattle.std.specs.Prelude.{◌≡◌, ◌≢◌, ◌≤◌, Some, Err, length, MatchBool};
+ghost use Rattle.gopass_base.specs.Faults.{HasCause};
+ghost use Rattle.disk_model.specs.Disk.{Rests};
+ghost use Rattle.pending_journal.specs.Opened.{IsSameVault};
+ghost use Rattle.store_state.specs.Tree.{IsOwnOf};
+ghost use Rattle.store_state.specs.State.{mounts_path, pending_path};
+ghost use Rattle.gopass_base.specs.Order.{IsSetOf};
+ghost use Rattle.store_state.specs.Order.{IsOrdered};
+ghost use Rattle.store_state.specs.Opening.{OpensStore, TellsMounts, TellsPending};
+
+use crate::fault::{Limit, StoreFault};
+use crate::rule_files::read_rules;
+use crate::seen::{Seen, survey};
+use crate::tree::Own;
+use disk_model::{Disk, Got};
+use mount_table::{DirPath, FilePath, Folder, Mounts, MountsFault, Name};
+use path_rules::{MOST_RULES, Rules};
+use pending_journal::Vault;
+use std::alloc::Global;
+
+/// The most bytes of a mounts file.
+const MOST_MOUNTS_BYTES: usize = 131_072;
+
+/// The most secrets of a store.
+pub const MOST_SECRETS: usize = 8_192;
+
+/// The mounts that the bytes of the mounts file tell.
+fn mounts_of(
+    alloc: Global,
+    path: &FilePath,
+    root: &DirPath,
+    bytes: &[u8],
+) -> Result<Mounts, StoreFault>
+    requires { path.now ≡ mounts_path root.now }
+    ensures mounts { length bytes.now ≤ 131072 → TellsMounts root.now (Some bytes.now) result }
+    ensures no_disk { result ≢ Err StoreFault.Disk }
+{
+    match Mounts::read(alloc, bytes, root) {
+        Ok(mounts) => Ok(mounts),
+        Err(MountsFault::BadLine(line)) => Err(StoreFault::BadFile(path.copy(alloc)?, line)),
+        Err(MountsFault::NoMemory) => Err(StoreFault::NoMemory),
+    }
+}
+
+/// Reads the mounts file.
+fn read_mounts<D: Disk>(
+    alloc: Global,
+    vault: &mut Vault<D>,
+    root: &DirPath,
+    own: &Own,
+) -> Result<Mounts, StoreFault>
+    requires root { root.now ≡ vault.old.root }
+    requires own { IsOwnOf vault.old.root own.now }
+    ensures kept { IsSameVault vault.old vault.new }
+    ensures rests { D.meaning.tells → Rests (D.meaning.view vault.old.disk) (D.meaning.view vault.new.disk) }
+    ensures mounts { D.meaning.tells → TellsMounts root.now ((D.meaning.view vault.old.disk).files (mounts_path root.now)) result }
+    ensures cause { HasCause (D.meaning.faults vault.old.disk) (D.meaning.faults vault.new.disk) (result ≡ Err StoreFault.Disk) }
+{
+    match vault.read(&own.mounts, MOST_MOUNTS_BYTES)? {
+        Got::Absent => Ok(Mounts::only(alloc, root)?),
+        Got::Bytes(bytes) => mounts_of(alloc, &own.mounts, root, &bytes),
+        Got::Long => Err(StoreFault::BadFile(own.mounts.copy(alloc)?, 0)),
+    }
+}
+
+/// Whether a read found a file.
+fn is_there(got: &Got) -> bool
+    ensures { MatchBool result (got.now ≢ Got.Absent) (got.now ≡ Got.Absent) }
+{
+    !matches!(got, Got::Absent)
+}
+
+/// Refuses where a pending file is there, since what it says is not read yet.
+fn find_no_pending<D: Disk>(
+    alloc: Global,
+    vault: &mut Vault<D>,
+    own: &Own,
+) -> Result<(), StoreFault>
+    requires { IsOwnOf vault.old.root own.now }
+    ensures kept { IsSameVault vault.old vault.new }
+    ensures rests { D.meaning.tells → Rests (D.meaning.view vault.old.disk) (D.meaning.view vault.new.disk) }
+    ensures pending { D.meaning.tells → TellsPending vault.old.root ((D.meaning.view vault.old.disk).files (pending_path vault.old.root)) result }
+    ensures cause { HasCause (D.meaning.faults vault.old.disk) (D.meaning.faults vault.new.disk) (result ≡ Err StoreFault.Disk) }
+{
+    let got = vault.read(&own.pending, 0)?;
+    if is_there(&got) {
+        return Err(StoreFault::BadFile(own.pending.copy(alloc)?, 1));
+    }
+    Ok(())
+}
+
+/// What an opening finds: the mounts, the rules, what lies below the mounts, and how many files each
+/// has.
+#[derive(Debug, Drop)]
+pub struct Found {
+    pub mounts: Mounts,
+    pub rules: Rules,
+    pub seen: Seen,
+    pub counts: Vec<usize>,
+}
+
+/// The lists in rising order, each item once.
+fn in_order(seen: Seen) -> Seen
+    ensures { IsOrdered seen result }
+{
+    Seen {
+        names: names_in_order(seen.names),
+        rules: folders_in_order(seen.rules),
+        templates: folders_in_order(seen.templates),
+        strange: paths_in_order(seen.strange),
+        shadowed: paths_in_order(seen.shadowed),
+    }
+}
+
+fn names_in_order(names: Vec<Name>) -> Vec<Name>
+    ensures { IsSetOf result.items names.items }
+{
+    let mut names = names;
+    names.sort_unstable();
+    names.dedup();
+    names
+}
+
+fn folders_in_order(folders: Vec<Folder>) -> Vec<Folder>
+    ensures { IsSetOf result.items folders.items }
+{
+    let mut folders = folders;
+    folders.sort_unstable();
+    folders.dedup();
+    folders
+}
+
+fn paths_in_order(paths: Vec<FilePath>) -> Vec<FilePath>
+    ensures { IsSetOf result.items paths.items }
+{
+    let mut paths = paths;
+    paths.sort_unstable();
+    paths.dedup();
+    paths
+}
+
+/// Reads the mounts, looks for a pending file, lists all mounts, and reads the rules.
+fn survey_all<D: Disk>(
+    alloc: Global,
+    vault: &mut Vault<D>,
+    root: &DirPath,
+    own: &Own,
+) -> Result<Found, StoreFault>
+    requires root { root.now ≡ vault.old.root }
+    requires own { IsOwnOf vault.old.root own.now }
+    ensures kept { IsSameVault vault.old vault.new }
+    ensures rests { D.meaning.tells → Rests (D.meaning.view vault.old.disk) (D.meaning.view vault.new.disk) }
+    ensures opens { D.meaning.tells → OpensStore vault.old.root (D.meaning.view vault.old.disk).files result }
+    ensures cause { HasCause (D.meaning.faults vault.old.disk) (D.meaning.faults vault.new.disk) (result ≡ Err StoreFault.Disk) }
+{
+    let mounts = read_mounts(alloc, vault, root, own)?;
+    find_no_pending(alloc, vault, own)?;
+    let (seen, counts) = survey(alloc, vault, own, &mounts)?;
+    let seen = in_order(seen);
+    if seen.rules.len() > MOST_RULES {
+        return Err(StoreFault::Full(Limit::Rules));
+    }
+    if seen.names.len() > MOST_SECRETS {
+        return Err(StoreFault::Full(Limit::Secrets));
+    }
+    let rules = read_rules(alloc, vault, &mounts, &seen.rules)?;
+    Ok(Found {
+        mounts,
+        rules,
+        seen,
+        counts,
+    })
+}
+
+/// What lies below the mounts of the vault: reads the mounts file, lists the directory of each mount
+/// once, and reads the file of each rule once. No secret is read. The first of these refuses it: a
+/// mounts file that does not read, a pending file, a mount with more than 40,000 files, more than 512
+/// rules, more than 8,192 secrets, a rule file that does not read.
+pub fn find<D: Disk>(alloc: Global, vault: &mut Vault<D>) -> Result<Found, StoreFault>
+    ensures kept { IsSameVault vault.old vault.new }
+    ensures rests { D.meaning.tells → Rests (D.meaning.view vault.old.disk) (D.meaning.view vault.new.disk) }
+    ensures opens { D.meaning.tells → OpensStore vault.old.root (D.meaning.view vault.old.disk).files result }
+    ensures cause { HasCause (D.meaning.faults vault.old.disk) (D.meaning.faults vault.new.disk) (result ≡ Err StoreFault.Disk) }
+{
+    let root = vault.root().copy(alloc)?;
+    let own = Own::of(alloc, &root)?;
+    survey_all(alloc, vault, &root, &own)
+}
