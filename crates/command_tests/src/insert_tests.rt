@@ -1,25 +1,14 @@
 //! `insert [-f] [-m] NAME`, and what crashes and failing calls leave of it.
 
-use crate::store::{Left, Store, check_rows, run, run_on};
+use crate::store::{CALM, Left, RULE, SITE, Store, check_rows, run, run_on};
 use disk_model::{MemDisk, Pick};
 use std::alloc::Global;
 use std::test::Fail;
 
-const RULE: (&str, &[u8]) = ("root/.gpg-id", b"alice\n");
-
-const SITE: (&str, &[u8]) = (
-    "root/web/site.gpg",
-    b"gopass-standin 1\nto alice\nbody 70770a\nend\n",
-);
-
 const STORE: Store = Store {
     files: &[RULE, SITE],
-    held: "alice",
     input: b"new\n",
-    input_fails: &[],
-    disk_fails: &[],
-    tool_fails: &[],
-    out_fails: &[],
+    ..CALM
 };
 
 const INSERT: &[&str] = &["insert", "-f", "web/site"];

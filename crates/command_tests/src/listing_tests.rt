@@ -1,9 +1,7 @@
 //! `ls`, `find` and `mounts`.
 
-use crate::store::{Store, check_rows};
+use crate::store::{CALM, RULE, Store, check_rows};
 use std::test::Fail;
-
-const RULE: (&str, &[u8]) = ("root/.gpg-id", b"alice\n");
 
 const TWO: Store = Store {
     files: &[
@@ -11,12 +9,7 @@ const TWO: Store = Store {
         ("root/a.gpg", b"not looked at"),
         ("root/a/b.gpg", b"not looked at"),
     ],
-    held: "alice",
-    disk_fails: &[],
-    input: b"",
-    input_fails: &[],
-    tool_fails: &[],
-    out_fails: &[],
+    ..CALM
 };
 
 #[test]

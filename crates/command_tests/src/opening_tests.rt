@@ -1,6 +1,6 @@
 //! Stores with mounts, and stores that are not opened.
 
-use crate::store::{Left, Store, check_rows, run_on};
+use crate::store::{CALM, Left, Store, check_rows, run_on};
 use disk_model::MemDisk;
 use mount_table::FilePath;
 use std::alloc::Global;
@@ -28,12 +28,7 @@ const MOUNTED: Store = Store {
         ("w/db/x.gpg", b"shadowed"),
         ("w/notes", b"strange"),
     ],
-    held: "alice",
-    disk_fails: &[],
-    input: b"",
-    input_fails: &[],
-    tool_fails: &[],
-    out_fails: &[],
+    ..CALM
 };
 
 #[test]

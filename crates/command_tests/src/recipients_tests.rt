@@ -1,6 +1,6 @@
 //! The rules of a store, and `recipients`.
 
-use crate::store::{Store, check_rows, run_on};
+use crate::store::{CALM, Store, check_rows, run_on};
 use disk_model::MemDisk;
 use mount_table::FilePath;
 use std::test::Fail;
@@ -11,12 +11,7 @@ const RULES: Store = Store {
         ("root/a/b/.gpg-id", b"bob\n"),
         ("root/a.gpg", b"not looked at"),
     ],
-    held: "alice",
-    disk_fails: &[],
-    input: b"",
-    input_fails: &[],
-    tool_fails: &[],
-    out_fails: &[],
+    ..CALM
 };
 
 #[test]

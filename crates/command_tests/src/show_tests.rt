@@ -1,14 +1,7 @@
 //! `show NAME`.
 
-use crate::store::{Left, Store, check_rows, disk, run_texts};
+use crate::store::{CALM, Left, RULE, SITE, Store, check_rows, disk, run_texts};
 use std::test::Fail;
-
-const RULE: (&str, &[u8]) = ("root/.gpg-id", b"alice\n");
-
-const SITE: (&str, &[u8]) = (
-    "root/web/site.gpg",
-    b"gopass-standin 1\nto alice\nbody 70770a\nend\n",
-);
 
 const EMPTY: (&str, &[u8]) = ("root/e.gpg", b"gopass-standin 1\nto alice\nbody \nend\n");
 
@@ -26,15 +19,7 @@ const BOTH: (&str, &[u8]) = (
 
 const ALL: &[(&str, &[u8])] = &[RULE, SITE, EMPTY, UNSEALED, OTHER, BOTH];
 
-const STORE: Store = Store {
-    files: ALL,
-    held: "alice",
-    disk_fails: &[],
-    input: b"",
-    input_fails: &[],
-    tool_fails: &[],
-    out_fails: &[],
-};
+const STORE: Store = Store { files: ALL, ..CALM };
 
 #[test]
 fn show_prints_the_body(rt: HostRuntime) -> Result<(), Fail> {
@@ -199,9 +184,9 @@ fn faults_of_the_outside_are_told(rt: HostRuntime) -> Result<(), Fail> {
         &tool,
         &[(show, 11, "", "gopass: web/site: the tool failed\n")],
     )?;
-    // The lock, the journal, the mounts file, the pending file, the listing, a rule file and the
-    // secret's file.
-    for call in 0..7u64 {
+    // The lock, a sync, the journal, its new text, the stage, a sync, the mounts file, the pending file,
+    // the listing, a rule file and the secret's file.
+    for call in 0..11u64 {
         let calls = [call];
         let disk = Store {
             disk_fails: &calls,

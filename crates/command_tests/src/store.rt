@@ -25,6 +25,26 @@ pub(crate) struct Store<'a> {
     pub out_fails: &'a [u64],
 }
 
+/// A rule for alice at the root.
+pub(crate) const RULE: (&str, &[u8]) = ("root/.gpg-id", b"alice\n");
+
+/// A secret with the body `pw`, sealed for alice.
+pub(crate) const SITE: (&str, &[u8]) = (
+    "root/web/site.gpg",
+    b"gopass-standin 1\nto alice\nbody 70770a\nend\n",
+);
+
+/// A store without files, where no call fails.
+pub(crate) const CALM: Store = Store {
+    files: &[],
+    held: "alice",
+    input: b"",
+    input_fails: &[],
+    disk_fails: &[],
+    tool_fails: &[],
+    out_fails: &[],
+};
+
 /// The words, and the status, standard output and standard error that they leave.
 pub(crate) type Row<'a> = (&'a [&'a str], u8, &'a str, &'a str);
 

@@ -8,7 +8,7 @@ use Rattle.mount_table.specs.declared.name.BadName.{BadName}
 use Rattle.cipher_port.specs.Tool.{Ring}
 use Rattle.command_words.specs.declared.command.Command.{Command}
 use Rattle.command_words.specs.declared.command.Command.TheVariants as command
-use Rattle.store_core.specs.State.{State, Cell}
+use Rattle.store_state.specs.State.{State, Cell}
 use Rattle.store_core.specs.Events.{Events}
 use Rattle.store_core.specs.Said.{Plan, answers}
 use Rattle.mount_table.specs.Folders.{without_slash}

@@ -4,7 +4,6 @@ pub mod RingLemmas
 pub mod TurnLemmas
 pub mod RunLemmas
 pub mod ListingLemmas
-pub mod BodyLemmas
 pub mod SafeLemmas
 pub mod KeptLemmas
 pub mod HistoryLemmas

@@ -5,46 +5,47 @@ use Rattle.std.specs.Option.{option_to_list}
 use Rattle.gopass_base.specs.Text.{Text}
 use Rattle.gopass_base.specs.Faults.{Rose}
 use Rattle.disk_model.specs.Files.{Files}
-use Rattle.pending_journal.specs.Redo.{StandsFor as StandsForFiles}
+use Rattle.pending_journal.specs.Redo.{RecoversTo}
 use Rattle.pending_journal.specs.Faults.{RefusesVault}
 use Rattle.pending_journal.specs.declared.fault.VaultFault.{VaultFault}
 use Rattle.pending_journal.specs.declared.fault.VaultFault.TheVariants.{BadJournal, Disk as VaultDisk, NoMemory as VaultNoMemory}
 use Rattle.cipher_port.specs.Tool.{Opens, Ring}
 use Rattle.command_words.specs.declared.command.Command.{Command}
-use Rattle.store_core.specs.declared.fault.StoreFault.{StoreFault}
-use Rattle.store_core.specs.declared.fault.StoreFault.TheVariants.{BadFile, Full, Disk, NoMemory}
-use Rattle.store_core.specs.Opening.{Opens as OpensStore}
-use Rattle.store_core.specs.State.{State}
+use Rattle.store_state.specs.declared.fault.StoreFault.{StoreFault}
+use Rattle.store_state.specs.declared.fault.StoreFault.TheVariants.{BadFile, Full, Disk, NoMemory}
+use Rattle.store_state.specs.Opening.{OpensStore}
+use Rattle.store_state.specs.State.{State}
 use Rattle.store_core.specs.Said.{Said, Plan, unsaid}
-use Rattle.store_core.specs.Events.{Events, calm, named, Cause, TheDisk, Memory, Stop}
+use Rattle.store_core.specs.Events.{Events, calm, failed_names, Cause, TheDisk, Memory, Stop}
 use Rattle.store_core.specs.Moment.{Faults, Moment}
-use Rattle.store_core.specs.Performs.{IsTied, Performs, RoseBy, cut, stop_said}
+use Rattle.store_core.specs.Performs.{IsTied, Performs, RoseBy, cut_off, stop_said}
 use Rattle.store_core.proofs.PerformLemmas.{calm_tied, stopped_tied}
 use Rattle.command_words.specs.declared.command.Command.TheVariants as commands
-use Rattle.gopass_cli.specs.declared.body.BodyFault.{BodyFault}
-use Rattle.gopass_cli.specs.declared.body.BodyFault.TheVariants.{Missing, Long, Failed, NoMemory as NoBodyRoom}
-use Rattle.gopass_cli.specs.Bodies.{Input}
-use Rattle.gopass_cli.specs.Requests.{IsLeft, IsNoBody, SaysOfInput, SaysOfRequest, body_said}
+use Rattle.request_body.specs.declared.body.BodyFault.{BodyFault}
+use Rattle.request_body.specs.declared.body.BodyFault.TheVariants.{Missing, Long, Failed, NoMemory as NoBodyRoom}
+use Rattle.request_body.specs.Bodies.{Input}
+use Rattle.request_body.specs.Given.{IsLeft, IsNoBody}
+use Rattle.gopass_cli.specs.Requests.{SaysOfInput, SaysOfRequest, body_said}
 use Rattle.gopass_cli.specs.Opening.{SaysOfCommand, fault_said, vault_said}
 use Rattle.gopass_cli.specs.Replies.{Says}
-use Rattle.gopass_cli.specs.Run.{Runs, UpTo}
+use Rattle.gopass_cli.specs.Run.{SaidInRun, UpTo}
 
 module _ (S : Events → Said → Type 0) (old new : Faults) (later : old.tools ≤ new.tools) where
-  pub runs_unsaid : (said : Said) → said ≡ unsaid → Runs S old new said
+  pub runs_unsaid : (said : Said) → said ≡ unsaid → SaidInRun S old new said
   runs_unsaid said e = record { events = calm; stop = Some (record { cause = Memory; commits = 0 }); tied = stopped_tied old new Memory later (λ e. absurd (cc)); says = e }
 
   -- this is meant where nothing failed
-  pub runs_meant : (wanted said : Said) → S calm wanted → Says wanted said → Runs S old new said
+  pub runs_meant : (wanted said : Said) → S calm wanted → Says wanted said → SaidInRun S old new said
   runs_meant wanted said h (inl e) = record { events = calm; stop = None; tied = calm_tied old new later; says = subst (S calm) (sym e) h }
   runs_meant wanted said h (inr e) = runs_unsaid said e
 
   -- there was no memory at all
-  pub runs_no_memory : (said : Said) → Says unsaid said → Runs S old new said
+  pub runs_no_memory : (said : Said) → Says unsaid said → SaidInRun S old new said
   runs_no_memory said (inl e) = runs_unsaid said e
   runs_no_memory said (inr e) = runs_unsaid said e
 
   -- the disk failed
-  pub runs_disk : (said : Said) → Rose old.disk new.disk → Says (stop_said TheDisk) said → Runs S old new said
+  pub runs_disk : (said : Said) → Rose old.disk new.disk → Says (stop_said TheDisk) said → SaidInRun S old new said
   runs_disk said rose (inl e) = record { events = calm; stop = Some (record { cause = TheDisk; commits = 0 }); tied = stopped_tied old new TheDisk later (λ e. rose); says = e }
   runs_disk said rose (inr e) = runs_unsaid said e
 
@@ -52,11 +53,11 @@ up_weaker : (stop : Option Stop) (P Q : Type 0) (said : Said) → (P → Q) → 
 up_weaker None P Q said so h = so h
 up_weaker (Some stop) P Q said so h = h
 
-pub runs_weaker : (S T : Events → Said → Type 0) (old new : Faults) (said : Said) → ((events : Events) → S events said → T events said) → Runs S old new said → Runs T old new said
+pub runs_weaker : (S T : Events → Said → Type 0) (old new : Faults) (said : Said) → ((events : Events) → S events said → T events said) → SaidInRun S old new said → SaidInRun T old new said
 runs_weaker S T old new said so p = record { events = p.events; stop = p.stop; tied = p.tied; says = up_weaker p.stop (S p.events said) (T p.events said) said (so p.events) p.says }
 
 -- what is tied to a later start is tied to an earlier one
-pub runs_later : (S : Events → Said → Type 0) (old mid new : Faults) (said : Said) → old.disk ≤ mid.disk → old.tools ≤ mid.tools → Runs S mid new said → Runs S old new said
+pub runs_later : (S : Events → Said → Type 0) (old mid new : Faults) (said : Said) → old.disk ≤ mid.disk → old.tools ≤ mid.tools → SaidInRun S mid new said → SaidInRun S old new said
 runs_later S old mid new said disk tools p = record {
   events = p.events;
   stop = p.stop;
@@ -64,13 +65,13 @@ runs_later S old mid new said disk tools p = record {
   says = p.says;
 }
 
-up_to : (stop : Option Stop) (plan : Plan) (said : Said) → said ≡ (cut stop plan).said → UpTo stop (said ≡ plan.said) said
+up_to : (stop : Option Stop) (plan : Plan) (said : Said) → said ≡ (cut_off stop plan).said → UpTo stop (said ≡ plan.said) said
 up_to None plan said e = e
 up_to (Some stop) plan said e = e
 
 -- a command that performs its plan
 pub runs_performs : (opens : Opens) (root : Text) (plan : Events → Plan) (start : State) (old new : Moment) (said : Said) → Performs opens root plan start old new said
-    → Runs (λ events said. said ≡ (plan events).said) old.faults new.faults said
+    → SaidInRun (λ events said. said ≡ (plan events).said) old.faults new.faults said
 runs_performs opens root plan start old new said p = record { events = p.events; stop = p.stop; tied = p.tied; says = up_to p.stop (plan p.events) said p.says }
 
 -- ---- where nothing failed
@@ -88,7 +89,7 @@ calm_by (Some name) unread failed e = absurd (omega (arith, e))
 said_by_none : (S : Events → Said → Type 0) (old new : Faults) (events : Events) (stop : Option Stop) (said : Said) → ¬ Rose old.disk new.disk → ¬ Rose old.tools new.tools → said.status ≢ 14
     → IsTied old new events stop → UpTo stop (S events said) said → S calm said
 said_by_none S old new events None said disk tools had tied says =
-    subst (λ (e : Events). S e said) (calm_by events.refused events.unread events.failed (none_rose old.tools new.tools (length (named events)) tied.tools tools)) says
+    subst (λ (e : Events). S e said) (calm_by events.refused events.unread events.failed (none_rose old.tools new.tools (length (failed_names events)) tied.tools tools)) says
 said_by_none S old new events (Some stop) said disk tools had tied says =
     absurd (no_stop (stop.cause) (λ e. disk (tied.disk stop.commits (ap (λ (c : Cause). Some (record { cause = c; commits = stop.commits })) e))) (λ e. had (ap (λ (s : Said). s.status) (says ∙ ap stop_said e))))
   where
@@ -96,14 +97,14 @@ said_by_none S old new events (Some stop) said disk tools had tied says =
     no_stop TheDisk d m = d refl
     no_stop Memory d m = m refl
 
-pub said_calmly : (S : Events → Said → Type 0) (old new : Faults) (said : Said) → ¬ Rose old.disk new.disk → ¬ Rose old.tools new.tools → said.status ≢ 14 → Runs S old new said → S calm said
+pub said_calmly : (S : Events → Said → Type 0) (old new : Faults) (said : Said) → ¬ Rose old.disk new.disk → ¬ Rose old.tools new.tools → said.status ≢ 14 → SaidInRun S old new said → S calm said
 said_calmly S old new said disk tools had p = said_by_none S old new p.events p.stop said disk tools had p.tied p.says
 
 -- ---- openings that are refused
 
 -- by the store
-pub runs_fault : (opens : Opens) (root : Text) (files after : Files) (input : Input) (same : IsLeft input) (ring : Ring) (command : Command) (old new : Faults) (fault : StoreFault) (said : Said) → old.tools ≤ new.tools → StandsForFiles root files after → OpensStore root after (Err fault)
-    → (fault ≡ Disk → Rose old.disk new.disk) → Says (fault_said fault) said → Runs (SaysOfCommand opens root files input ring command) old new said
+pub runs_fault : (opens : Opens) (root : Text) (files after : Files) (input : Input) (same : IsLeft input) (ring : Ring) (command : Command) (old new : Faults) (fault : StoreFault) (said : Said) → old.tools ≤ new.tools → RecoversTo root files after → OpensStore root after (Err fault)
+    → (fault ≡ Disk → Rose old.disk new.disk) → Says (fault_said fault) said → SaidInRun (SaysOfCommand opens root files input ring command) old new said
 runs_fault opens root files after input same ring command old new (BadFile path line) said later redone refuses rose says =
     runs_meant (SaysOfCommand opens root files input ring command) old new later (fault_said (BadFile path line)) said (inr (inl (record { after = after; redone = redone; fault = BadFile path line; of_files = tt; refuses = refuses; says = refl }, same))) says
 runs_fault opens root files after input same ring command old new (Full limit) said later redone refuses rose says =
@@ -113,9 +114,9 @@ runs_fault opens root files after input same ring command old new NoMemory said 
 
 -- by the vault
 pub runs_vault : (opens : Opens) (root : Text) (files : Files) (input : Input) (same : IsLeft input) (ring : Ring) (command : Command) (old new : Faults) (fault : VaultFault) (said : Said) → old.tools ≤ new.tools → RefusesVault root files fault
-    → (fault ≡ VaultDisk → Rose old.disk new.disk) → Says (vault_said root fault) said → Runs (SaysOfCommand opens root files input ring command) old new said
+    → (fault ≡ VaultDisk → Rose old.disk new.disk) → Says (vault_said root fault) said → SaidInRun (SaysOfCommand opens root files input ring command) old new said
 runs_vault opens root files input same ring command old new (BadJournal line) said later bad rose says =
-    runs_meant (SaysOfCommand opens root files input ring command) old new later (vault_said root (BadJournal line)) said (inl (record { bad = bad; line = line; says = refl }, same)) says
+    runs_meant (SaysOfCommand opens root files input ring command) old new later (vault_said root (BadJournal line)) said (inl (record { bad = bad.0; line = line; of_journal = bad.1; says = refl }, same)) says
 runs_vault opens root files input same ring command old new VaultDisk said later refuses rose says = runs_disk (SaysOfCommand opens root files input ring command) old new later said (rose refl) says
 runs_vault opens root files input same ring command old new VaultNoMemory said later refuses rose says = runs_no_memory (SaysOfCommand opens root files input ring command) old new later said says
 
@@ -134,7 +135,7 @@ says_of_input commands.Mounts input fault why other = why
 says_of_input commands.Recipients input fault why other = why
 
 pub runs_no_body : (command : Command) (input : Input) (ring : Ring) (state : State) (old new : Faults) (fault : BodyFault) (said : Said) → old.tools ≤ new.tools → IsNoBody command input fault → Says (body_said fault) said
-    → Runs (SaysOfRequest command input ring state) old new said
+    → SaidInRun (SaysOfRequest command input ring state) old new said
 runs_no_body command input ring state old new NoBodyRoom said later why says = runs_no_memory (SaysOfRequest command input ring state) old new later said says
 runs_no_body command input ring state old new Missing said later why says = runs_meant (SaysOfRequest command input ring state) old new later (body_said Missing) said (inl (says_of_input command input Missing why (λ e. cc))) says
 runs_no_body command input ring state old new Long said later why says = runs_meant (SaysOfRequest command input ring state) old new later (body_said Long) said (inl (says_of_input command input Long why (λ e. cc))) says

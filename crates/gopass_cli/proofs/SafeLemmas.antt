@@ -1,43 +1,40 @@
 -- How the parts of a run keep the crash promise.
 use Rattle.std.proofs.Common.{◌≡◌, ◌≢◌, ◌⊎◌, inl, inr, ⊎_elim, ℕ, zero, suc, ◌≤◌, List, [], ◌∷◌, ◌++◌, Option, None, Some, refl, sym, ◌∙◌, ap, subst, arith}
 use Rattle.std.specs.Prelude.{Contains}
+use Rattle.std.proofs.lemmas.List.Elements.{Contains-append_left, Contains-append_right}
 use Rattle.gopass_base.specs.Text.{Text}
+use Rattle.gopass_base.proofs.ListLemmas.{here, later}
 use Rattle.disk_model.specs.Files.{Files}
 use Rattle.disk_model.specs.Disk.{View, IsSound, Rests}
 use Rattle.disk_model.specs.Runs.{Leaves}
 use Rattle.disk_model.proofs.RunLemmas.{leaves_none, leaves_then, leaves_weaken}
-use Rattle.pending_journal.specs.Redo.{IsAtRest, StandsFor as StandsForFiles}
+use Rattle.pending_journal.specs.Redo.{IsAtRest, RecoversTo}
 use Rattle.pending_journal.specs.Recovery.{IsOldOrAlike}
 use Rattle.pending_journal.proofs.PlanLemmas.{one_meaning}
 use Rattle.store_core.proofs.PerformLemmas.{stands_at_rest}
 use Rattle.cipher_port.specs.Tool.{Opens, Ring}
 use Rattle.command_words.specs.declared.command.Command.{Command}
-use Rattle.store_core.specs.State.{State, StandsFor}
-use Rattle.store_core.specs.Said.{Said, Plan}
+use Rattle.store_state.specs.State.{State, StandsFor}
+use Rattle.store_state.specs.declared.fault.StoreFault.{StoreFault}
+use Rattle.store_state.specs.declared.fault.StoreFault.TheVariants.{BadFile, Full, Disk, NoMemory}
+use Rattle.pending_journal.specs.declared.fault.VaultFault.{VaultFault}
+use Rattle.pending_journal.specs.declared.fault.VaultFault.TheVariants.{BadJournal, Disk as NoVaultDisk, NoMemory as NoVaultRoom}
+use Rattle.request_body.specs.declared.body.BodyFault.{BodyFault}
+use Rattle.request_body.specs.declared.body.BodyFault.TheVariants.{Missing, Long, Failed, NoMemory as NoBodyRoom}
+use Rattle.store_core.specs.Said.{Said, Plan, unsaid}
 use Rattle.store_core.specs.Events.{Cause, TheDisk, Memory, Stop}
 use Rattle.store_core.specs.Moment.{Faults, Moment}
-use Rattle.store_core.specs.Performs.{IsPassed, Performs, cut, state_at, stop_said}
-use Rattle.gopass_cli.specs.Bodies.{Input}
+use Rattle.store_core.specs.Performs.{IsPassed, LeftFor, Performs, cut_off, state_at, stop_said}
+use Rattle.request_body.specs.Bodies.{Input}
 use Rattle.gopass_cli.specs.Plan.{plan_of}
-use Rattle.gopass_cli.specs.Requests.{IsGiven}
-use Rattle.gopass_cli.specs.Safe.{IsOneOf, StandsForOne, Went, IsSafe}
+use Rattle.request_body.specs.Given.{IsGiven}
+use Rattle.gopass_cli.specs.Opening.{fault_said, vault_said}
+use Rattle.gopass_cli.specs.Requests.{body_said}
+use Rattle.gopass_cli.specs.Replies.{Says}
+use Rattle.gopass_cli.specs.Printed.{Stream, Prints}
+use Rattle.gopass_cli.specs.Safe.{IsOneOf, StandsForOne, BeginsNone, BeganNone, Went, IsSafe}
 
 -- ---- states among others
-
-pub here : {X : Type 0} (x : X) (xs : List X) → Contains (x ∷ xs) x
-here x xs = (0, omega arith, refl)
-
-pub later : {X : Type 0} (x : X) (xs : List X) (q : X) → Contains xs q → Contains (x ∷ xs) q
-later x xs q (k, lt, is) = (suc k, omega (arith, lt), is)
-
-pub left_has : {X : Type 0} (xs ys : List X) (q : X) → Contains xs q → Contains (xs ++ ys) q
-left_has [] ys q (k, lt, is) = absurd (omega (arith, lt))
-left_has (x ∷ xs) ys q (zero, lt, is) = subst (Contains (x ∷ (xs ++ ys))) is (here x (xs ++ ys))
-left_has (x ∷ xs) ys q (suc k, lt, is) = later x (xs ++ ys) q (left_has xs ys q (k, omega (arith, lt), is))
-
-pub right_has : {X : Type 0} (xs ys : List X) (q : X) → Contains ys q → Contains (xs ++ ys) q
-right_has [] ys q has = has
-right_has (x ∷ xs) ys q has = later x (xs ++ ys) q (right_has xs ys q has)
 
 -- a state that is passed is the start, or one of those passed
 pub start_or : (start : State) (states : List State) (n : ℕ) → (state_at start states n ≡ start) ⊎ Contains states (state_at start states n)
@@ -50,13 +47,83 @@ start_or start (s ∷ states) (suc n) = elim (start_or s states n) [
 
 passed_among : (before states : List State) (start : State) (n : ℕ) → Contains before start → Contains (before ++ states) (state_at start states n)
 passed_among before states start n from = elim (start_or start states n) [
-  | inl same ↦ subst (Contains (before ++ states)) (sym same) (left_has before states start from)
-  | inr has ↦ right_has before states (state_at start states n) has
+  | inl same ↦ subst (Contains (before ++ states)) (sym same) (Contains-append_left before states start from)
+  | inr has ↦ Contains-append_right before states (state_at start states n) has
 ]
 
+-- ---- statuses of a run that begins no command
+
+says_2 : BeginsNone 2
+says_2 = (0, omega arith, refl)
+
+says_6 : BeginsNone 6
+says_6 = (1, omega arith, refl)
+
+says_10 : BeginsNone 10
+says_10 = (2, omega arith, refl)
+
+says_12 : BeginsNone 12
+says_12 = (3, omega arith, refl)
+
+says_14 : BeginsNone 14
+says_14 = (4, omega arith, refl)
+
+says_15 : BeginsNone 15
+says_15 = (5, omega arith, refl)
+
+says_16 : BeginsNone 16
+says_16 = (6, omega arith, refl)
+
+-- what is said, or want of memory
+pub tells_said : (wanted said : Said) → BeginsNone wanted.status → Says wanted said → BeginsNone said.status
+tells_said wanted said tells (inl is) = subst (λ (s : Said). BeginsNone s.status) (sym is) tells
+tells_said wanted said tells (inr is) = subst (λ (s : Said). BeginsNone s.status) (sym is) says_14
+
+pub tells_words : (said wanted : Said) → wanted.status ≡ 2 → Says wanted said → BeginsNone said.status
+tells_words said wanted is says = tells_said wanted said (subst BeginsNone (sym is) says_2) says
+
+pub tells_body : (fault : BodyFault) (said : Said) → Says (body_said fault) said → BeginsNone said.status
+tells_body Missing said says = tells_said (body_said Missing) said says_2 says
+tells_body Long said says = tells_said (body_said Long) said says_15 says
+tells_body Failed said says = tells_said (body_said Failed) said says_15 says
+tells_body NoBodyRoom said says = tells_said (body_said NoBodyRoom) said says_14 says
+
+pub tells_store : (fault : StoreFault) (said : Said) → Says (fault_said fault) said → BeginsNone said.status
+tells_store (BadFile path line) said says = tells_said (fault_said (BadFile path line)) said says_6 says
+tells_store (Full limit) said says = tells_said (fault_said (Full limit)) said says_10 says
+tells_store Disk said says = tells_said (fault_said Disk) said says_12 says
+tells_store NoMemory said says = tells_said (fault_said NoMemory) said says_14 says
+
+pub tells_vault : (root : Text) (fault : VaultFault) (said : Said) → Says (vault_said root fault) said → BeginsNone said.status
+tells_vault root (BadJournal line) said says = tells_said (vault_said root (BadJournal line)) said says_6 says
+tells_vault root NoVaultDisk said says = tells_said (vault_said root NoVaultDisk) said says_12 says
+tells_vault root NoVaultRoom said says = tells_said (vault_said root NoVaultRoom) said says_14 says
+
+pub tells_memory : (said : Said) → said ≡ unsaid → BeginsNone said.status
+tells_memory said is = subst (λ (s : Said). BeginsNone s.status) (sym is) says_14
+
+tells_printed : (said : Said) (status : ℕ) (out out' err err' : Stream) → Prints said status out out' err err' → BeginsNone said.status → BeginsNone status
+tells_printed said status out out' err err' (inl all) tells = subst BeginsNone (sym all.status_is) tells
+tells_printed said status out out' err err' (inr (inl stops)) tells = subst BeginsNone (sym stops.status_is) says_16
+tells_printed said status out out' err err' (inr (inr stops)) tells = subst BeginsNone (sym stops.status_is) says_16
+
+-- ---- a run that is not stopped
+
+whole_by : (stop : Option Stop) (plan : Plan) (status : ℕ) → status ≡ (cut_off stop plan).said.status → status ≢ 12 → status ≢ 14 → stop ≡ None
+whole_by None plan status is disk memory = refl
+whole_by (Some stop) plan status is disk memory = absurd (by stop.cause is)
+  where
+    by : (cause : Cause) → status ≡ (stop_said cause).status → ⊥
+    by TheDisk e = disk e
+    by Memory e = memory e
+
 module _ (opens : Opens) (root : Text) where
+  -- a status that is none of 12, 14 and 16 tells that there was no stop
+  pub went_whole : (ring : Ring) (command : Command) (input : Input) (before : List State) (old new : View) (f0 f1 : Faults) (status : ℕ) → (w : Went opens root ring command input before old new f0 f1 status) → status ≢ 12 → status ≢ 14 → status ≢ 16 → w.stop ≡ None
+  went_whole ring command input before old new f0 f1 status w disk memory sink = whole_by w.stop (plan_of ring command w.body w.start w.events) status (w.says sink) disk memory
+
   more_states : (before more : List State) (m : Files) → IsOneOf opens root before m → IsOneOf opens root (before ++ more) m
-  more_states before more m (state, has, left) = (state, left_has before more state has, left)
+  more_states before more m (state, has, left) = (state, Contains-append_left before more state has, left)
 
   passed_is_one : (before states : List State) (start : State) → Contains before start → (m : Files) → IsPassed opens root start states m → IsOneOf opens root (before ++ states) m
   passed_is_one before states start from m (n, within, left) = (state_at start states n, passed_among before states start n from, left)
@@ -74,9 +141,12 @@ module _ (opens : Opens) (root : Text) where
   }
 
   -- a vault at rest in a state
+  pub rest_left : (v : View) (state : State) → IsAtRest root v → StandsFor opens root v.files state → LeftFor opens root state v.files
+  rest_left v state rest stands = (v.files, stands_at_rest root v.files rest.none, stands)
+
   pub rest_stands : (before : List State) (v : View) (state : State) → IsAtRest root v → StandsFor opens root v.files state → Contains before state → StandsForOne opens root before v
   rest_stands before v state rest stands has m im =
-      (state, has, (v.files, subst (λ (f : Files). StandsForFiles root f v.files) (sym (rest.only m im)) (stands_at_rest root v.files rest.none), stands))
+      (state, has, (v.files, subst (λ (f : Files). RecoversTo root f v.files) (sym (rest.only m im)) (stands_at_rest root v.files rest.none), stands))
 
   -- an opening
   pub opened_safe : (before : List State) (v0 v1 : View) → IsSound v0 → StandsForOne opens root before v0 → Leaves (IsOldOrAlike root v0) v0 v1 → Leaves (IsOneOf opens root before) v0 v1
@@ -87,52 +157,64 @@ module _ (opens : Opens) (root : Text) where
       each m (inr (after, was, now)) =
           let first = stand v0.files sound.now in
           let same = one_meaning root v0.files after first.2.0 was first.2.1 in
-          (first.0, first.1, (first.2.0, subst (StandsForFiles root m) same now, first.2.2))
+          (first.0, first.1, (first.2.0, subst (RecoversTo root m) same now, first.2.2))
+
+  -- the files on the disk stand for the state of the files that are found in a vault at rest
+  pub found_before : (v0 v1 : View) → RecoversTo root v0.files v1.files → IsAtRest root v1 → (s : State) → LeftFor opens root s v1.files → LeftFor opens root s v0.files
+  found_before v0 v1 recovers rest s (after, again, stands) =
+      let same = one_meaning root v1.files v1.files after (stands_at_rest root v1.files rest.none) again in
+      (after, subst (RecoversTo root v0.files) same recovers, stands)
+
+  -- ---- a run that begins no command
+
+  pub none_then : (before : List State) (v0 v1 v2 : View) (status : ℕ) → Leaves (IsOneOf opens root before) v0 v1 → BeganNone opens root before v1 v2 status → BeganNone opens root before v0 v2 status
+  none_then before v0 v1 v2 status first none = record { tells = none.tells; any_moment = leaves_then (IsOneOf opens root before) v0 v1 v2 first none.any_moment }
+
+  -- what is printed of it says so too
+  pub none_printed : (before : List State) (v0 v1 : View) (said : Said) (status : ℕ) (out out' err err' : Stream) → Prints said status out out' err err'
+      → BeganNone opens root before v0 v1 said.status → BeganNone opens root before v0 v1 status
+  none_printed before v0 v1 said status out out' err err' prints none = record {
+    tells = tells_printed said status out out' err err' prints none.tells;
+    any_moment = none.any_moment;
+  }
 
   -- ---- the parts one after another
 
   pub safe_after : (ring : Ring) (command : Command) (input : Input) (before : List State) (v0 v1 v2 : View) (f0 f1 f2 : Faults) (status : ℕ) → f0.disk ≤ f1.disk → f0.tools ≤ f1.tools
-      → Leaves (IsOneOf opens root before) v0 v1 → IsSafe opens root ring command input before v1 v2 f1 f2 status → IsSafe opens root ring command input before v0 v2 f0 f2 status
-  safe_after ring command input before v0 v1 v2 f0 f1 f2 status disk tools first (inl run) = inl (leaves_then (IsOneOf opens root before) v0 v1 v2 first run)
-  safe_after ring command input before v0 v1 v2 f0 f1 f2 status disk tools first (inr w) =
-      let states = (cut w.stop (plan_of ring command w.body w.start w.events)).states in
+      → ((s : State) → LeftFor opens root s v1.files → LeftFor opens root s v0.files) → Leaves (IsOneOf opens root before) v0 v1 → IsSafe opens root ring command input before v1 v2 f1 f2 status → IsSafe opens root ring command input before v0 v2 f0 f2 status
+  safe_after ring command input before v0 v1 v2 f0 f1 f2 status disk tools back first (inl none) = inl (none_then before v0 v1 v2 status first none)
+  safe_after ring command input before v0 v1 v2 f0 f1 f2 status disk tools back first (inr w) =
+      let states = (cut_off w.stop (plan_of ring command w.body w.start w.events)).states in
       inr (record {
         start = w.start;
         from = w.from;
+        found = back w.start w.found;
         body = w.body;
         given = w.given;
         events = w.events;
         stop = w.stop;
         tied = record { tools = omega (arith, tools, w.tied.tools); disk = λ n e. (let rose = w.tied.disk n e in omega (arith, disk, rose)) };
+        says = w.says;
         any_moment = leaves_then (IsOneOf opens root (before ++ states)) v0 v1 v2 (leaves_weaken (IsOneOf opens root before) (IsOneOf opens root (before ++ states)) v0 v1 (more_states before states) first) w.any_moment;
         at_end = w.at_end;
-        whole = w.whole;
       })
 
-  -- a status that tells no stop
-  whole_by : (stop : Option Stop) (plan : Plan) (said : Said) → said ≡ (cut stop plan).said → said.status ≢ 12 → said.status ≢ 14 → stop ≡ None
-  whole_by None plan said is disk memory = refl
-  whole_by (Some stop) plan said is disk memory = absurd (by stop.cause (ap (λ (s : Said). s.status) is))
-    where
-      by : (cause : Cause) → said.status ≡ (stop_said cause).status → ⊥
-      by TheDisk e = disk e
-      by Memory e = memory e
-
   -- a command that performs its plan
-  pub went_performs : (ring : Ring) (command : Command) (input : Input) (body : Option Text) (before : List State) (start : State) (old new : Moment) (said : Said) → Contains before start → IsGiven command input body
+  pub went_performs : (ring : Ring) (command : Command) (input : Input) (body : Option Text) (before : List State) (start : State) (old new : Moment) (said : Said) → Contains before start → LeftFor opens root start old.view.files → IsGiven command input body
       → Performs opens root (plan_of ring command body start) start old new said → Went opens root ring command input before old.view new.view old.faults new.faults said.status
-  went_performs ring command input body before start old new said from given p = record {
+  went_performs ring command input body before start old new said from found given p = record {
     start = start;
     from = from;
+    found = found;
     body = body;
     given = given;
     events = p.events;
     stop = p.stop;
     tied = p.tied;
-    any_moment = leaves_weaken (IsPassed opens root start (cut p.stop (plan_of ring command body start p.events)).states) (IsOneOf opens root (before ++ (cut p.stop (plan_of ring command body start p.events)).states)) old.view new.view
-        (passed_is_one before (cut p.stop (plan_of ring command body start p.events)).states start from) p.goes.any_moment;
+    says = λ sink. ap (λ (s : Said). s.status) p.says;
+    any_moment = leaves_weaken (IsPassed opens root start (cut_off p.stop (plan_of ring command body start p.events)).states) (IsOneOf opens root (before ++ (cut_off p.stop (plan_of ring command body start p.events)).states)) old.view new.view
+        (passed_is_one before (cut_off p.stop (plan_of ring command body start p.events)).states start from) p.goes.any_moment;
     at_end = p.goes.at_end;
-    whole = λ disk memory sink. whole_by p.stop (plan_of ring command body start p.events) said p.says disk memory;
   }
 
   -- and is printed: a status that is not 16 is that of the answer
@@ -141,12 +223,13 @@ module _ (opens : Opens) (root : Text) where
   went_printed ring command input before v0 v1 f0 f1 status printed same w = record {
     start = w.start;
     from = w.from;
+    found = w.found;
     body = w.body;
     given = w.given;
     events = w.events;
     stop = w.stop;
     tied = w.tied;
+    says = λ sink. (let is = same sink in is ∙ w.says (λ e. sink (is ∙ e)));
     any_moment = w.any_moment;
     at_end = w.at_end;
-    whole = λ disk memory sink. (let is = same sink in w.whole (λ e. disk (is ∙ e)) (λ e. memory (is ∙ e)) (λ e. sink (is ∙ e)));
   }

@@ -12,7 +12,7 @@ use Rattle.disk_model.specs.declared.disk.Disk.{Ghosts}
 use Rattle.cipher_port.specs.Tool.{Opens, ToolMeaning}
 use Rattle.store_core.specs.declared.store.Store.{Store}
 use Rattle.pending_journal.specs.Redo.{IsAtRest}
-use Rattle.store_core.specs.State.{State, StandsFor}
+use Rattle.store_state.specs.State.{State, StandsFor}
 use Rattle.store_core.specs.Said.{Said, Plan, answers, refused, unsaid}
 use Rattle.store_core.specs.Texts.{bad_name}
 use Rattle.store_core.specs.Events.{Events, calm, Memory}

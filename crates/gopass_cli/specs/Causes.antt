@@ -2,7 +2,7 @@
 use Rattle.std.specs.Prelude.{◌≡◌, ◌⊎◌, ℕ, ◌≤◌}
 use Rattle.gopass_base.specs.Faults.{Rose}
 use Rattle.io_ports.specs.Source.{Told}
-use Rattle.gopass_cli.specs.Bodies.{Input, IsOver}
+use Rattle.request_body.specs.Bodies.{Input, IsOver}
 
 -- how often the disk, the tools, the input and the two sinks have failed
 pub record AllFaults : Type 0 where

@@ -3,7 +3,7 @@ use Rattle.std.specs.Prelude.{[], ◌∷◌}
 use Rattle.gopass_base.specs.Text.{Text}
 use Rattle.text_search.specs.Search.{names_with}
 use Rattle.listing_texts.specs.Lines.{on_lines}
-use Rattle.store_core.specs.State.{State}
+use Rattle.store_state.specs.State.{State}
 use Rattle.store_core.specs.Said.{Said, Plan, answers, granted}
 use Rattle.store_core.specs.Show.{names_of}
 

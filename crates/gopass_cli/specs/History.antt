@@ -1,14 +1,14 @@
 -- Runs after one another: each on the disk that the last one handed back, or on what a crash of it left.
 use Rattle.std.specs.Prelude.{◌++◌, ℕ, zero, suc, List, [], ◌∷◌}
-use mathlib.Core.Logic.{inl, inr}
+use Rattle.std.proofs.Common.{inl, inr}
 use Rattle.gopass_base.specs.Text.{Text}
 use Rattle.disk_model.specs.Files.{Files}
-use Rattle.disk_model.specs.Disk.{View, DiskMeaning, Stands}
+use Rattle.disk_model.specs.Disk.{View, DiskMeaning, IsDurable}
 use Rattle.cipher_port.specs.Tool.{Opens, Ring}
-use Rattle.store_core.specs.State.{State}
+use Rattle.store_state.specs.State.{State}
 use Rattle.store_core.specs.Moment.{Faults}
-use Rattle.store_core.specs.Performs.{answered, cut, state_at}
-use Rattle.gopass_cli.specs.Bodies.{Input}
+use Rattle.store_core.specs.Performs.{answered, cut_off, state_at}
+use Rattle.request_body.specs.Bodies.{Input}
 use Rattle.gopass_cli.specs.Plan.{plan_of}
 use Rattle.gopass_cli.specs.Safe.{IsSafeRun, StandsForOne}
 
@@ -31,24 +31,27 @@ next_after [] n = []
 next_after (s ∷ states) zero = s ∷ []
 next_after (s ∷ states) (suc n) = next_after states n
 
--- what may be found on the disk that the run handed back: a state from before, where it changed none; else the last that it
+-- what may be found on the disk that the run handed back: a state from before, where it began no command; else the last that it
 -- reached, or the next
 abbrev pub found_after : (opens : Opens) (root : Text) (run : Run) (before : List State) (old new : View) → IsKeptBy opens root run before old new → List State
-found_after opens root run before old new (inl rested) = before
+found_after opens root run before old new (inl none) = before
 found_after opens root run before old new (inr (command, asked, went)) =
     let plan = plan_of run.ring command went.body went.start went.events in
-    state_at went.start (cut went.stop plan).states (answered went.stop plan) ∷ next_after (cut went.stop plan).states (answered went.stop plan)
+    state_at went.start (cut_off went.stop plan).states (answered went.stop plan) ∷ next_after (cut_off went.stop plan).states (answered went.stop plan)
 
 -- what may be found on the disk that a crash of the run left: a state from before, or one that it passed
 abbrev pub found_during : (opens : Opens) (root : Text) (run : Run) (before : List State) (old new : View) → IsKeptBy opens root run before old new → List State
-found_during opens root run before old new (inl rested) = before
-found_during opens root run before old new (inr (command, asked, went)) = before ++ (cut went.stop (plan_of run.ring command went.body went.start went.events)).states
+found_during opens root run before old new (inl none) = before
+found_during opens root run before old new (inr (command, asked, went)) = before ++ (cut_off went.stop (plan_of run.ring command went.body went.start went.events)).states
 
--- the states that may be found on a disk after runs: at first those for which it stood, and then what each run made of it
+-- the states that may be found on a disk after runs: at first those for which it stood, and then what each run made of it. A
+-- disk that begins with what a crash between two runs left has the same
 pub data History {D : Type 0} (disks : DiskMeaning D) (opens : Opens) (root : Text) (first : List State) : List State → D → Type 0 where
   begun : (disk : D) → StandsForOne opens root first (disks.view disk) → History disks opens root first first disk
   handed_back : (before : List State) (old new : D) (run : Run) (kept : IsKeptBy opens root run before (disks.view old) (disks.view new))
       → History disks opens root first before old → History disks opens root first (found_after opens root run before (disks.view old) (disks.view new) kept) new
   crashed : (before : List State) (old new left : D) (run : Run) (kept : IsKeptBy opens root run before (disks.view old) (disks.view new)) (files : Files)
-      → History disks opens root first before old → (disks.view new).left_since (disks.view old).moment files → Stands files (disks.view left)
+      → History disks opens root first before old → (disks.view new).left_since (disks.view old).moment files → IsDurable files (disks.view left)
       → History disks opens root first (found_during opens root run before (disks.view old) (disks.view new) kept) left
+  stopped : (before : List State) (old left : D) (files : Files)
+      → History disks opens root first before old → (disks.view old).images files → IsDurable files (disks.view left) → History disks opens root first before left

@@ -4,7 +4,7 @@ pub mod Find
 pub mod Mounts
 pub mod Recipients
 pub mod Plan
-pub mod Bodies
+pub mod Asks
 pub mod Requests
 pub mod Safe
 pub mod Replies

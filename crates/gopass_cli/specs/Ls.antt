@@ -7,7 +7,7 @@ use Rattle.mount_table.specs.FaultOf.{folder_fault}
 use Rattle.mount_table.specs.declared.mounts.Row.{Row}
 use Rattle.listing_texts.specs.Lines.{on_lines}
 use Rattle.listing_texts.specs.Tree.{tree_of}
-use Rattle.store_core.specs.State.{State}
+use Rattle.store_state.specs.State.{State}
 use Rattle.store_core.specs.Said.{Said, Plan, answers, granted, refused}
 use Rattle.store_core.specs.Texts.{not_in_the_store}
 use Rattle.store_core.specs.Reads.{rows_under}

@@ -1,8 +1,8 @@
 -- The plan of `mounts`.
-use Rattle.listing_texts.specs.MountLines.{mounts_text}
-use Rattle.store_core.specs.State.{State}
+use Rattle.listing_texts.specs.MountLines.{mounts_listing}
+use Rattle.store_state.specs.State.{State}
 use Rattle.store_core.specs.Said.{Plan, answers, granted}
 
 -- `mounts` prints the mounts
 abbrev pub plan_mounts : State → Plan
-plan_mounts state = answers (granted (mounts_text state.mounts))
+plan_mounts state = answers (granted (mounts_listing state.mounts))

@@ -3,28 +3,31 @@ use Rattle.std.specs.Prelude.{◌≡◌, ◌⊎◌, ℕ, Err}
 use Rattle.gopass_base.specs.Text.{Text}
 use Rattle.disk_model.specs.Files.{Files}
 use Rattle.pending_journal.specs.Service.{journal_path}
-use Rattle.pending_journal.specs.Redo.{StandsFor as StandsForFiles}
-use Rattle.pending_journal.specs.Faults.{HasBadJournal}
+use Rattle.pending_journal.specs.Redo.{RecoversTo}
+use Rattle.pending_journal.specs.Faults.{HasBadJournal, IsJournalLine}
 use Rattle.pending_journal.specs.declared.fault.VaultFault.{VaultFault}
 use Rattle.pending_journal.specs.declared.fault.VaultFault.TheVariants.{BadJournal, Disk as NoVaultDisk, NoMemory as NoVaultRoom}
 use Rattle.cipher_port.specs.Tool.{Opens, Ring}
 use Rattle.command_words.specs.declared.command.Command.{Command}
-use Rattle.store_core.specs.declared.fault.StoreFault.{StoreFault}
-use Rattle.store_core.specs.declared.fault.StoreFault.TheVariants.{BadFile, Full, Disk, NoMemory}
-use Rattle.store_core.specs.declared.opening.Found.{Found}
-use Rattle.store_core.specs.Opening.{IsFound, Opens as OpensStore}
-use Rattle.store_core.specs.State.{State, StandsFor}
+use Rattle.store_state.specs.declared.fault.StoreFault.{StoreFault}
+use Rattle.store_state.specs.declared.fault.StoreFault.TheVariants.{BadFile, Full, Disk, NoMemory}
+use Rattle.store_state.specs.declared.opening.Found.{Found}
+use Rattle.store_state.specs.Faults.{IsFileFault}
+use Rattle.store_state.specs.Opening.{IsFound, OpensStore}
+use Rattle.store_state.specs.State.{State, StandsFor}
 use Rattle.store_core.specs.Events.{Events, TheDisk}
 use Rattle.store_core.specs.Performs.{stop_said}
 use Rattle.store_core.specs.Said.{Said, refused, unsaid}
 use Rattle.store_core.specs.Texts.{bad_line, limit_passed}
-use Rattle.gopass_cli.specs.Bodies.{Input}
-use Rattle.gopass_cli.specs.Requests.{IsLeft, SaysOfRequest}
+use Rattle.request_body.specs.Bodies.{Input}
+use Rattle.request_body.specs.Given.{IsLeft}
+use Rattle.gopass_cli.specs.Requests.{SaysOfRequest}
 
 -- a journal is there that does not read: it is bad at one of its lines
 pub record SaysOfJournal (root : Text) (files : Files) (said : Said) : Type 0 where
   pub bad : HasBadJournal root files
   pub line : ℕ
+  pub of_journal : IsJournalLine root files line
   pub says : said ≡ refused 6 (bad_line (journal_path root) line)
 
 -- what is said of a vault that is refused
@@ -40,26 +43,19 @@ fault_said (Full limit) = refused 10 (limit_passed limit)
 fault_said Disk = stop_said TheDisk
 fault_said NoMemory = unsaid
 
--- the files are the reason
-abbrev pub IsOfFiles : StoreFault → Type 0
-IsOfFiles (BadFile path line) = Unit {0}
-IsOfFiles (Full limit) = Unit {0}
-IsOfFiles Disk = ⊥
-IsOfFiles NoMemory = ⊥
-
 -- the files for which those on the disk stand refuse the opening of the store
 pub record SaysOfFault (root : Text) (files : Files) (said : Said) : Type 0 where
   pub after : Files
-  pub redone : StandsForFiles root files after
+  pub redone : RecoversTo root files after
   pub fault : StoreFault
-  pub of_files : IsOfFiles fault
+  pub of_files : IsFileFault fault
   pub refuses : OpensStore root after (Err fault)
   pub says : said ≡ fault_said fault
 
 -- the files for which those on the disk stand are those of a store, and the command is answered in its state
 pub record SaysOpened (opens : Opens) (root : Text) (files : Files) (input : Input) (ring : Ring) (command : Command) (events : Events) (said : Said) : Type 0 where
   pub after : Files
-  pub redone : StandsForFiles root files after
+  pub redone : RecoversTo root files after
   pub found : Found
   pub finds : IsFound root after found
   pub state : State

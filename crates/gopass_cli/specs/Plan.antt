@@ -5,7 +5,7 @@ use Rattle.mount_table.specs.FaultOf.{name_fault}
 use Rattle.cipher_port.specs.Tool.{Ring}
 use Rattle.command_words.specs.declared.command.Command.{Command}
 use Rattle.command_words.specs.declared.command.Command.TheVariants as command
-use Rattle.store_core.specs.State.{State}
+use Rattle.store_state.specs.State.{State}
 use Rattle.store_core.specs.Events.{Events}
 use Rattle.store_core.specs.Said.{Plan}
 use Rattle.store_core.specs.Show.{plan_show}

@@ -1,19 +1,21 @@
 -- What a whole run ensures.
-use Rattle.std.specs.Prelude.{◌≢◌, ℕ, List, sum_by}
+use Rattle.std.specs.Prelude.{◌≡◌, ◌≢◌, ℕ, List, Err, sum_by}
 use Rattle.gopass_base.specs.Text.{Text}
 use Rattle.disk_model.specs.Disk.{DiskMeaning}
 use Rattle.cipher_port.specs.Tool.{Ring, ToolMeaning}
 use Rattle.io_ports.specs.Sink.{SinkMeaning}
 use Rattle.io_ports.specs.Source.{SourceMeaning, Told}
-use Rattle.store_core.specs.State.{State}
+use Rattle.store_state.specs.State.{State}
 use Rattle.store_core.specs.Events.{calm}
 use Rattle.store_core.specs.Moment.{HaveRing}
 use Rattle.store_core.specs.Said.{Said}
-use Rattle.gopass_cli.specs.Bodies.{IsOver, input_of}
+use Rattle.request_body.specs.Bodies.{IsOver, input_of}
+use Rattle.command_words.specs.Words.{words_in}
+use Rattle.gopass_cli.specs.Asks.{CallsTools, TakesInput}
 use Rattle.gopass_cli.specs.Safe.{IsSafeRun, StandsForOne}
 use Rattle.gopass_cli.specs.Causes.{AllFaults, HasAllCauses, NoneRose}
 use Rattle.gopass_cli.specs.Printed.{Prints, PrintsAll, printed, stream_of}
-use Rattle.gopass_cli.specs.Run.{Runs, RunSays, faults_of}
+use Rattle.gopass_cli.specs.Run.{SaidInRun, RunSays, faults_of}
 
 -- all that a run is given of the outside
 pub record Outside (D C S O E : Type 0) : Type 0 where
@@ -51,6 +53,13 @@ module _ {D C S O E : Type 0} (means : Meanings D C S O E) where
   abbrev pub RanWithCauses : (old new : Outside D C S O E) → ℕ → Type 0
   RanWithCauses old new status = HasAllCauses (Told IsOver (means.input.left old.input) (means.input.left new.input)) (all_faults old) (all_faults new) status
 
+  -- tools are called no more often than the command may that the words give, and the input is left by one that takes no body;
+  -- bad words ask nobody
+  pub record AsksOnly (words : List Text) (old new : Outside D C S O E) : Type 0 where
+    pub calls : CallsTools words (sum_by means.tool.calls old.tools) (sum_by means.tool.calls new.tools)
+    pub left : TakesInput words (input_of means.input old.input new.input)
+    pub nobody : (at : ℕ) → words_in words ≡ Err at → (new.disk ≡ old.disk) × (new.tools ≡ old.tools)
+
   -- where disk and tools tell
   abbrev pub IfTold : Outside D C S O E → (Ring → Type 0) → Type 0
   IfTold old P = means.disk.tells → means.tool.tells → (ring : Ring) → HaveRing means.tool old.tools ring → P ring
@@ -59,7 +68,7 @@ module _ {D C S O E : Type 0} (means : Meanings D C S O E) where
   abbrev pub Ran : List Text → Text → (old new : Outside D C S O E) → ℕ → Type 0
   Ran words root old new status = IfTold old (λ ring.
       (said : Said)
-      × Runs (RunSays words means.tool.opens root (means.disk.view old.disk).files (input_of means.input old.input new.input) ring) (faults_of means.disk old.disk means.tool old.tools) (faults_of means.disk new.disk means.tool new.tools) said
+      × SaidInRun (RunSays words means.tool.opens root (means.disk.view old.disk).files (input_of means.input old.input new.input) ring) (faults_of means.disk old.disk means.tool old.tools) (faults_of means.disk new.disk means.tool new.tools) said
       × Prints (printed said) status (stream_of means.out old.out) (stream_of means.out new.out) (stream_of means.err old.err) (stream_of means.err new.err))
 
   -- where nothing failed either, and there was memory: the run says what is defined where nothing fails, and all of it is printed

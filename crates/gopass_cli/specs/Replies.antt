@@ -11,7 +11,7 @@ abbrev pub Says : Said → Said → Type 0
 Says wanted said = (said ≡ wanted) ⊎ (said ≡ unsaid)
 
 -- the status tells no fault of the outside
-pub record IsOwn (status : ℕ) : Type 0 where
+pub record IsInnerStatus (status : ℕ) : Type 0 where
   pub no_tool : status ≢ 11
   pub no_disk : status ≢ 12
   pub no_input : status ≢ 15

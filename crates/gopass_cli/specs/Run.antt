@@ -4,7 +4,7 @@ use Rattle.gopass_base.specs.Text.{Text}
 use Rattle.disk_model.specs.Files.{Files}
 use Rattle.disk_model.specs.Disk.{DiskMeaning}
 use Rattle.cipher_port.specs.Tool.{Opens, Ring, ToolMeaning}
-use Rattle.command_words.specs.Said.{Said as Asked, said as asks}
+use Rattle.command_words.specs.Said.{Asked, asked_by}
 use Rattle.command_words.specs.Words.{words_in}
 use Rattle.command_words.specs.declared.command.Command.{Command}
 use Rattle.store_core.specs.Said.{Said, refused}
@@ -12,14 +12,14 @@ use Rattle.store_core.specs.Texts.{bad_words}
 use Rattle.store_core.specs.Events.{Events, Stop}
 use Rattle.store_core.specs.Moment.{Faults, HaveRing}
 use Rattle.store_core.specs.Performs.{IsTied, stop_said}
-use Rattle.gopass_cli.specs.Bodies.{Input}
-use Rattle.gopass_cli.specs.Requests.{IsLeft}
+use Rattle.request_body.specs.Bodies.{Input}
+use Rattle.request_body.specs.Given.{IsLeft}
 use Rattle.gopass_cli.specs.Opening.{SaysOfCommand}
 
 -- what is said of the command that the words give, or of the first word that is bad
 abbrev pub SaysOfWords : Result Asked ℕ → Opens → Text → Files → Input → Ring → Events → Said → Type 0
 SaysOfWords (Err at) opens root files input ring events said = (said ≡ refused 2 (bad_words at)) × IsLeft input
-SaysOfWords (Ok asked) opens root files input ring events said = (command : Command) × (asked ≡ asks command) × SaysOfCommand opens root files input ring command events said
+SaysOfWords (Ok asked) opens root files input ring events said = (command : Command) × (asked ≡ asked_by command) × SaysOfCommand opens root files input ring command events said
 
 -- what a run says for these words on these files, in the order: words, opening, the body, and the plan of the command
 abbrev pub RunSays : List Text → Opens → Text → Files → Input → Ring → Events → Said → Type 0
@@ -31,7 +31,7 @@ UpTo None Says said = Says
 UpTo (Some stop) Says said = said ≡ stop_said stop.cause
 
 -- this is said for some events, tied to what happened, up to a stop
-pub record Runs (Says : Events → Said → Type 0) (old new : Faults) (said : Said) : Type 0 where
+pub record SaidInRun (Says : Events → Said → Type 0) (old new : Faults) (said : Said) : Type 0 where
   pub events : Events
   pub stop : Option Stop
   pub tied : IsTied old new events stop
@@ -41,7 +41,7 @@ abbrev pub faults_of : {D C : Type 0} → DiskMeaning D → D → ToolMeaning C 
 faults_of disk_meaning disk meaning tools = record { disk = disk_meaning.faults disk; tools = sum_by meaning.faults tools }
 
 -- where disk and tools tell: this is said, of the ring of the tools, for some events and up to a stop
-abbrev pub Answers : {D C : Type 0} → DiskMeaning D → ToolMeaning C → (disk disk' : D) → (tools tools' : List C) → (Ring → Events → Said → Type 0) → Said → Type 0
-Answers disk_meaning meaning disk disk' tools tools' Says said =
+abbrev pub SaidWhereTold : {D C : Type 0} → DiskMeaning D → ToolMeaning C → (disk disk' : D) → (tools tools' : List C) → (Ring → Events → Said → Type 0) → Said → Type 0
+SaidWhereTold disk_meaning meaning disk disk' tools tools' Says said =
     disk_meaning.tells → meaning.tells → (ring : Ring) → HaveRing meaning tools ring
-    → Runs (Says ring) (faults_of disk_meaning disk meaning tools) (faults_of disk_meaning disk' meaning tools') said
+    → SaidInRun (Says ring) (faults_of disk_meaning disk meaning tools) (faults_of disk_meaning disk' meaning tools') said

@@ -1,29 +1,27 @@
 //! The answer to the words of a command line.
 
-ghost use Rattle.std.specs.Prelude.{◌≡◌, ◌≢◌, ◌⊎◌, ◌≤◌, IsFalse, List, Option, Ok, Contains, is_some, map, string_bytes, vec_len};
+ghost use Rattle.std.specs.Prelude.{◌≡◌, ◌≢◌, ◌+◌, ◌≤◌, ℕ, false, Err, IsFalse, List, Contains, is_some, map, string_bytes, sum_by, vec_len};
 ghost use Rattle.disk_model.specs.Files.{Files};
 ghost use Rattle.disk_model.specs.Disk.{IsSound};
-ghost use Rattle.disk_model.specs.Runs.{Leaves};
-ghost use Rattle.pending_journal.specs.Redo.{StandsFor as StandsForFiles};
+ghost use Rattle.pending_journal.specs.Redo.{RecoversTo};
 ghost use Rattle.cipher_port.specs.Tool.{Ring};
-ghost use Rattle.store_core.specs.State.{State, StandsFor};
+ghost use Rattle.store_state.specs.State.{State, StandsFor};
 ghost use Rattle.store_core.specs.Moment.{HaveRing};
 ghost use Rattle.store_core.specs.Does.{HasCauses};
 ghost use Rattle.store_core.specs.Events.{TheDisk};
 ghost use Rattle.store_core.specs.Performs.{stop_said};
 ghost use Rattle.gopass_cli.specs.Opening.{SaysOfCommand, fault_said, vault_said};
-ghost use Rattle.command_words.specs.Said.{said as asks};
-ghost use Rattle.command_words.specs.Words.{words_in};
 ghost use Rattle.gopass_cli.specs.Causes.{HasInputCause};
-ghost use Rattle.gopass_cli.specs.Bodies.{Input, input_of};
-ghost use Rattle.gopass_cli.specs.Plan.{plan_of};
-ghost use Rattle.gopass_cli.specs.Requests.{IsGiven, SaysOfRequest, body_said, bytes_of, takes_body};
-ghost use Rattle.gopass_cli.specs.Safe.{IsOneOf, IsSafe, StandsForOne, Went};
-ghost use Rattle.command_words.specs.declared.command.Command.{Command as Asked};
+ghost use Rattle.request_body.specs.Bodies.{Input, input_of};
+ghost use Rattle.gopass_cli.specs.Plan.{most_calls, plan_of};
+ghost use Rattle.gopass_cli.specs.Asks.{CallsTools, TakesInput};
+ghost use Rattle.command_words.specs.Words.{words_in};
+ghost use Rattle.request_body.specs.Given.{IsGiven, IsLeft, bytes_of, takes_body};
+ghost use Rattle.gopass_cli.specs.Requests.{SaysOfRequest, body_said};
+ghost use Rattle.gopass_cli.specs.Safe.{IsSafe, IsSafeRun, StandsForOne, Went};
 ghost use Rattle.gopass_cli.specs.Replies.{said_in, Says};
-ghost use Rattle.gopass_cli.specs.Run.{Answers, RunSays, faults_of};
+ghost use Rattle.gopass_cli.specs.Run.{SaidWhereTold, RunSays, faults_of};
 
-use crate::body::{BodyFault, take_body};
 use crate::reply::{Reply, no_memory, refuse_limit, refuse_line, refuse_with, refuse_words};
 use crate::turns::{Request, turn};
 use cipher_port::Cipher;
@@ -32,8 +30,10 @@ use disk_model::Disk;
 use io_ports::Source;
 use mount_table::{DirPath, ServiceFile};
 use pending_journal::{Vault, VaultFault, VaultOpened};
+use request_body::{BodyFault, take_body};
 use std::alloc::Global;
-use store_core::{Store, StoreFault, StoreOpened};
+use store_core::{Store, StoreOpened};
+use store_state::StoreFault;
 
 /// An answer, and the disk again.
 pub(crate) struct Answered<D> {
@@ -100,13 +100,14 @@ fn answer_turn<D: Disk + Send, C: Cipher + Send>(
     requires free { IsFalse store.vault.stuck }
     requires fits { is_some body ≡ takes_body command }
     ensures answers { (state : State) → StandsFor C.meaning.opens store.vault.root (D.meaning.view store.vault.disk).files state
-        → Answers D.meaning C.meaning store.vault.disk result.disk tools.old.items tools.new.items
+        → SaidWhereTold D.meaning C.meaning store.vault.disk result.disk tools.old.items tools.new.items
         (λ ring events said. said ≡ (plan_of ring command (bytes_of body) state events).said) (said_in result.reply) }
     ensures went { (state : State) → StandsFor C.meaning.opens store.vault.root (D.meaning.view store.vault.disk).files state
         → D.meaning.tells → C.meaning.tells → (ring : Ring) → HaveRing C.meaning tools.old.items ring
         → (before : List State) → Contains before state → (input : Input) → IsGiven command input (bytes_of body)
         → Went C.meaning.opens store.vault.root ring command input before (D.meaning.view store.vault.disk) (D.meaning.view result.disk)
         (faults_of D.meaning store.vault.disk C.meaning tools.old.items) (faults_of D.meaning result.disk C.meaning tools.new.items) result.reply.status }
+    ensures calls { sum_by C.meaning.calls tools.new.items ≤ sum_by C.meaning.calls tools.old.items + most_calls command }
     ensures rings { (ring : Ring) → HaveRing C.meaning tools.old.items ring → HaveRing C.meaning tools.new.items ring }
     ensures count { vec_len tools.new ≡ vec_len tools.old }
     ensures causes { HasCauses (faults_of D.meaning store.vault.disk C.meaning tools.old.items)
@@ -135,13 +136,15 @@ fn answer_open<D: Disk + Send, C: Cipher + Send, S: Source>(
     requires rings { C.meaning.tells → (ring : Ring) × HaveRing C.meaning tools.old.items ring }
     requires free { IsFalse store.vault.stuck }
     ensures answers { (state : State) → StandsFor C.meaning.opens store.vault.root (D.meaning.view store.vault.disk).files state
-        → Answers D.meaning C.meaning store.vault.disk result.disk tools.old.items tools.new.items
+        → SaidWhereTold D.meaning C.meaning store.vault.disk result.disk tools.old.items tools.new.items
         (λ ring. SaysOfRequest command (input_of S.meaning input.old input.new) ring state) (said_in result.reply) }
     ensures safe { (state : State) → StandsFor C.meaning.opens store.vault.root (D.meaning.view store.vault.disk).files state
         → D.meaning.tells → C.meaning.tells → (ring : Ring) → HaveRing C.meaning tools.old.items ring
         → (before : List State) → Contains before state
         → IsSafe C.meaning.opens store.vault.root ring command (input_of S.meaning input.old input.new) before (D.meaning.view store.vault.disk) (D.meaning.view result.disk)
         (faults_of D.meaning store.vault.disk C.meaning tools.old.items) (faults_of D.meaning result.disk C.meaning tools.new.items) result.reply.status }
+    ensures calls { sum_by C.meaning.calls tools.new.items ≤ sum_by C.meaning.calls tools.old.items + most_calls command }
+    ensures left { takes_body command ≡ false → IsLeft (input_of S.meaning input.old input.new) }
     ensures rings { (ring : Ring) → HaveRing C.meaning tools.old.items ring → HaveRing C.meaning tools.new.items ring }
     ensures count { vec_len tools.new ≡ vec_len tools.old }
     ensures causes { HasCauses (faults_of D.meaning store.vault.disk C.meaning tools.old.items)
@@ -169,14 +172,16 @@ fn answer_vault<D: Disk + Send, C: Cipher + Send, S: Source>(
     requires few { vec_len tools.old ≤ 16 }
     requires rings { C.meaning.tells → (ring : Ring) × HaveRing C.meaning tools.old.items ring }
     requires free { IsFalse vault.stuck }
-    ensures answers { (files : Files) → StandsForFiles vault.root files (D.meaning.view vault.disk).files
-        → Answers D.meaning C.meaning vault.disk result.disk tools.old.items tools.new.items
+    ensures answers { (files : Files) → RecoversTo vault.root files (D.meaning.view vault.disk).files
+        → SaidWhereTold D.meaning C.meaning vault.disk result.disk tools.old.items tools.new.items
         (λ ring. SaysOfCommand C.meaning.opens vault.root files (input_of S.meaning input.old input.new) ring command) (said_in result.reply) }
     ensures safe { (state : State) → StandsFor C.meaning.opens vault.root (D.meaning.view vault.disk).files state
         → D.meaning.tells → C.meaning.tells → (ring : Ring) → HaveRing C.meaning tools.old.items ring
         → (before : List State) → Contains before state
         → IsSafe C.meaning.opens vault.root ring command (input_of S.meaning input.old input.new) before (D.meaning.view vault.disk) (D.meaning.view result.disk)
         (faults_of D.meaning vault.disk C.meaning tools.old.items) (faults_of D.meaning result.disk C.meaning tools.new.items) result.reply.status }
+    ensures calls { sum_by C.meaning.calls tools.new.items ≤ sum_by C.meaning.calls tools.old.items + most_calls command }
+    ensures left { takes_body command ≡ false → IsLeft (input_of S.meaning input.old input.new) }
     ensures rings { (ring : Ring) → HaveRing C.meaning tools.old.items ring → HaveRing C.meaning tools.new.items ring }
     ensures count { vec_len tools.new ≡ vec_len tools.old }
     ensures causes { HasCauses (faults_of D.meaning vault.disk C.meaning tools.old.items)
@@ -209,12 +214,14 @@ fn answer_command<D: Disk + Send, C: Cipher + Send, S: Source>(
     requires some { 1 ≤ vec_len tools.old }
     requires few { vec_len tools.old ≤ 16 }
     requires rings { C.meaning.tells → (ring : Ring) × HaveRing C.meaning tools.old.items ring }
-    ensures answers { Answers D.meaning C.meaning disk result.disk tools.old.items tools.new.items
+    ensures answers { SaidWhereTold D.meaning C.meaning disk result.disk tools.old.items tools.new.items
         (λ ring. SaysOfCommand C.meaning.opens root.now (D.meaning.view disk).files (input_of S.meaning input.old input.new) ring command) (said_in result.reply) }
     ensures safe { D.meaning.tells → C.meaning.tells → (ring : Ring) → HaveRing C.meaning tools.old.items ring
         → (before : List State) → StandsForOne C.meaning.opens root.now before (D.meaning.view disk)
         → IsSafe C.meaning.opens root.now ring command (input_of S.meaning input.old input.new) before (D.meaning.view disk) (D.meaning.view result.disk)
         (faults_of D.meaning disk C.meaning tools.old.items) (faults_of D.meaning result.disk C.meaning tools.new.items) result.reply.status }
+    ensures calls { sum_by C.meaning.calls tools.new.items ≤ sum_by C.meaning.calls tools.old.items + most_calls command }
+    ensures left { takes_body command ≡ false → IsLeft (input_of S.meaning input.old input.new) }
     ensures rings { (ring : Ring) → HaveRing C.meaning tools.old.items ring → HaveRing C.meaning tools.new.items ring }
     ensures count { vec_len tools.new ≡ vec_len tools.old }
     ensures causes { HasCauses (faults_of D.meaning disk C.meaning tools.old.items)
@@ -243,14 +250,15 @@ pub(crate) fn answer<D: Disk + Send, C: Cipher + Send, S: Source>(
     requires some { 1 ≤ vec_len tools.old }
     requires few { vec_len tools.old ≤ 16 }
     requires rings { C.meaning.tells → (ring : Ring) × HaveRing C.meaning tools.old.items ring }
-    ensures answers { Answers D.meaning C.meaning disk result.disk tools.old.items tools.new.items
+    ensures answers { SaidWhereTold D.meaning C.meaning disk result.disk tools.old.items tools.new.items
         (RunSays (map string_bytes words.now) C.meaning.opens root.now (D.meaning.view disk).files (input_of S.meaning input.old input.new)) (said_in result.reply) }
     ensures safe { D.meaning.tells → C.meaning.tells → (ring : Ring) → HaveRing C.meaning tools.old.items ring
         → (before : List State) → StandsForOne C.meaning.opens root.now before (D.meaning.view disk)
-        → Leaves (IsOneOf C.meaning.opens root.now before) (D.meaning.view disk) (D.meaning.view result.disk)
-        ⊎ ((command : Asked) × (words_in (map string_bytes words.now) ≡ Ok (asks command))
-        × Went C.meaning.opens root.now ring command (input_of S.meaning input.old input.new) before (D.meaning.view disk) (D.meaning.view result.disk)
-        (faults_of D.meaning disk C.meaning tools.old.items) (faults_of D.meaning result.disk C.meaning tools.new.items) result.reply.status) }
+        → IsSafeRun C.meaning.opens root.now ring (map string_bytes words.now) (input_of S.meaning input.old input.new) before (D.meaning.view disk) (D.meaning.view result.disk)
+        (faults_of D.meaning disk C.meaning tools.old.items) (faults_of D.meaning result.disk C.meaning tools.new.items) result.reply.status }
+    ensures calls { CallsTools (map string_bytes words.now) (sum_by C.meaning.calls tools.old.items) (sum_by C.meaning.calls tools.new.items) }
+    ensures left { TakesInput (map string_bytes words.now) (input_of S.meaning input.old input.new) }
+    ensures nobody { (at : ℕ) → words_in (map string_bytes words.now) ≡ Err at → (result.disk ≡ disk) × (tools.new.items ≡ tools.old.items) }
     ensures rings { (ring : Ring) → HaveRing C.meaning tools.old.items ring → HaveRing C.meaning tools.new.items ring }
     ensures count { vec_len tools.new ≡ vec_len tools.old }
     ensures causes { HasCauses (faults_of D.meaning disk C.meaning tools.old.items)

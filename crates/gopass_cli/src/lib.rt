@@ -2,7 +2,6 @@
 #![tactic(auto)]
 
 mod answers;
-mod body;
 mod laws;
 mod listing;
 mod printing;
@@ -11,7 +10,7 @@ mod run;
 mod texts;
 mod turns;
 
-pub use laws::{commands_keep, histories_are_safe};
+pub use laws::{commands_keep, ended_runs_are_whole, histories_are_safe};
 pub use reply::Reply;
 pub use run::{Ended, gopass};
 pub use turns::{Request, turn};

@@ -6,8 +6,8 @@ ghost use Rattle.mount_table.specs.Prefixes.{Holds};
 ghost use Rattle.store_core.specs.Said.{granted};
 ghost use Rattle.store_core.specs.Reads.{rows_under};
 ghost use Rattle.store_core.specs.Show.{holds_one, names_of};
-ghost use Rattle.gopass_cli.specs.Replies.{IsOwn, Says, said_in};
-ghost use Rattle.gopass_cli.specs.Listings.{Lists};
+ghost use Rattle.gopass_cli.specs.Replies.{IsInnerStatus, Says, said_in};
+ghost use Rattle.gopass_cli.specs.Listings.{SaysInState};
 ghost use Rattle.gopass_cli.specs.Ls.{is_alias, listed, list_folder, list_word, plan_ls};
 ghost use Rattle.gopass_cli.specs.Find.{hits, plan_find};
 ghost use Rattle.gopass_cli.specs.Mounts.{plan_mounts};
@@ -25,7 +25,7 @@ use text_search::names_with;
 /// The answer that prints the text, where there is memory for it.
 fn print_text(alloc: Global, text: Result<Vec<u8>, NoMemory>) -> Reply
     ensures says { (wanted : Text) → IfOk text (λ t. t.items ≡ wanted) → Says (granted wanted) (said_in result) }
-    ensures own { IsOwn result.status }
+    ensures own { IsInnerStatus result.status }
 {
     match text {
         Ok(text) => grant(alloc, text),
@@ -68,7 +68,7 @@ fn is_there(mounts: &Mounts, folder: &Folder, names: &[Name]) -> bool
 /// The answer of `ls` for a folder.
 fn list_folder<D: Disk>(alloc: Global, store: &Store<D>, folder: &Folder, flat: bool) -> Reply
     ensures says { Says (list_folder flat folder.now store.now.found.seen.names.items store.now.found.mounts) (said_in result) }
-    ensures own { IsOwn result.status }
+    ensures own { IsInnerStatus result.status }
 {
     match store.rows_under(alloc, folder) {
         Ok(names) => {
@@ -84,8 +84,8 @@ fn list_folder<D: Disk>(alloc: Global, store: &Store<D>, folder: &Folder, flat: 
 /// The answer of `ls` for a word.
 fn list_word<D: Disk>(alloc: Global, store: &Store<D>, word: &str, flat: bool) -> Reply
     requires free { IsFalse store.now.vault.stuck }
-    ensures lists { Lists store.now (λ state. (list_word word.now flat state).said) (said_in result) }
-    ensures own { IsOwn result.status }
+    ensures lists { SaysInState store.now (λ state. (list_word word.now flat state).said) (said_in result) }
+    ensures own { IsInnerStatus result.status }
 {
     match Folder::read(alloc, word) {
         Ok(folder) => list_folder(alloc, store, &folder, flat),
@@ -102,8 +102,8 @@ pub(crate) fn ls<D: Disk>(
     flat: bool,
 ) -> Reply
     requires free { IsFalse store.now.vault.stuck }
-    ensures lists { Lists store.now (λ state. (plan_ls (option_map string_bytes folder.now) flat state).said) (said_in result) }
-    ensures own { IsOwn result.status }
+    ensures lists { SaysInState store.now (λ state. (plan_ls (option_map string_bytes folder.now) flat state).said) (said_in result) }
+    ensures own { IsInnerStatus result.status }
 {
     match folder {
         Some(word) => list_word(alloc, store, word, flat),
@@ -114,7 +114,7 @@ pub(crate) fn ls<D: Disk>(
 /// The answer that prints these lines; where there is none the status is 1.
 fn hits(alloc: Global, lines: Vec<u8>) -> Reply
     ensures says { said_in result ≡ hits lines.items }
-    ensures own { IsOwn result.status }
+    ensures own { IsInnerStatus result.status }
 {
     if lines.is_empty() {
         return Reply {
@@ -129,7 +129,7 @@ fn hits(alloc: Global, lines: Vec<u8>) -> Reply
 /// The same, where there is memory for the lines.
 fn print_hits(alloc: Global, lines: Result<Vec<u8>, NoMemory>) -> Reply
     ensures says { (wanted : Text) → IfOk lines (λ l. l.items ≡ wanted) → Says (hits wanted) (said_in result) }
-    ensures own { IsOwn result.status }
+    ensures own { IsInnerStatus result.status }
 {
     match lines {
         Ok(lines) => hits(alloc, lines),
@@ -140,8 +140,8 @@ fn print_hits(alloc: Global, lines: Result<Vec<u8>, NoMemory>) -> Reply
 /// `find TEXT`: the names of the secrets that have the text.
 pub(crate) fn find<D: Disk>(alloc: Global, store: &Store<D>, text: &str) -> Reply
     requires free { IsFalse store.now.vault.stuck }
-    ensures lists { Lists store.now (λ state. (plan_find text.now state).said) (said_in result) }
-    ensures own { IsOwn result.status }
+    ensures lists { SaysInState store.now (λ state. (plan_find text.now state).said) (said_in result) }
+    ensures own { IsInnerStatus result.status }
 {
     match names_with(alloc, store.names(), text) {
         Ok(names) => print_hits(alloc, on_lines(alloc, &names)),
@@ -152,8 +152,8 @@ pub(crate) fn find<D: Disk>(alloc: Global, store: &Store<D>, text: &str) -> Repl
 /// `mounts`: the mounts, a line for each.
 pub(crate) fn mounts<D: Disk>(alloc: Global, store: &Store<D>) -> Reply
     requires free { IsFalse store.now.vault.stuck }
-    ensures lists { Lists store.now (λ state. (plan_mounts state).said) (said_in result) }
-    ensures own { IsOwn result.status }
+    ensures lists { SaysInState store.now (λ state. (plan_mounts state).said) (said_in result) }
+    ensures own { IsInnerStatus result.status }
 {
     print_text(alloc, mounts_text(alloc, store.mounts()))
 }
@@ -161,8 +161,8 @@ pub(crate) fn mounts<D: Disk>(alloc: Global, store: &Store<D>) -> Reply
 /// `recipients`: the folders that have a rule, each with its ids.
 pub(crate) fn recipients<D: Disk>(alloc: Global, store: &Store<D>) -> Reply
     requires free { IsFalse store.now.vault.stuck }
-    ensures lists { Lists store.now (λ state. (plan_recipients state).said) (said_in result) }
-    ensures own { IsOwn result.status }
+    ensures lists { SaysInState store.now (λ state. (plan_recipients state).said) (said_in result) }
+    ensures own { IsInnerStatus result.status }
 {
     print_text(alloc, recipients_text(alloc, store.rules()))
 }

@@ -9,7 +9,8 @@ ghost use Rattle.gopass_cli.specs.Replies.{said_in, Says};
 
 use crate::texts;
 use std::alloc::{AllocError, Global};
-use store_core::{Limit, Refusal};
+use store_core::Refusal;
+use store_state::Limit;
 
 /// A status, and the bytes for standard output and standard error. With status 14 there are none.
 #[derive(Debug, Drop)]

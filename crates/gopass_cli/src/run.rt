@@ -3,7 +3,7 @@
 ghost use Rattle.std.specs.Prelude.{◌≡◌, ◌≤◌, map, string_bytes, vec_len};
 ghost use Rattle.cipher_port.specs.Tool.{Ring};
 ghost use Rattle.store_core.specs.Moment.{HaveRing};
-ghost use Rattle.gopass_cli.specs.Ran.{Ran, RanCalmly, RanSafely, RanWithCauses, meanings, outside};
+ghost use Rattle.gopass_cli.specs.Ran.{AsksOnly, Ran, RanCalmly, RanSafely, RanWithCauses, meanings, outside};
 
 use crate::answers::{Answered, answer};
 use crate::printing::print;
@@ -34,10 +34,9 @@ pub struct Ended<D> {
 /// - 7 where no rule governs the secret, 8 where the file is not sealed or no key is held, 9 where the
 ///   tool does not know a recipient, and 10 where a limit is passed;
 /// - 11 where the tool failed, 12 where the disk failed, 14 for want of memory, 15 where the input
-///   failed or is over 16,777,216 bytes, and 16 where a sink failed.
+///   failed or is too long, and 16 where a sink failed.
 ///
-/// There are 1 to 16 tools, and where they tell their rings these are equal. They stay in their
-/// order.
+/// There are 1 to 16 tools, and where they tell their rings these are equal.
 pub fn gopass<D: Disk + Send, C: Cipher + Send, S: Source, O: Sink, E: Sink>(
     alloc: Global,
     words: &[String],
@@ -63,12 +62,17 @@ pub fn gopass<D: Disk + Send, C: Cipher + Send, S: Source, O: Sink, E: Sink>(
 
     // The crash promise, where disk and tools tell: what a crash leaves at any moment of the run, its
     // opening included, stands for a state before or for one that the plan of the command passes
-    // through, and at the end for the last one, where the status is none of 12, 14 and 16.
+    // through, and at the end for the last one, where the status is none of 12, 14 and 16. A run that
+    // begins no command says so by its status.
     ensures safe { RanSafely (meanings D.meaning C.meaning S.meaning O.meaning E.meaning) (map string_bytes words.now) root.now
         (outside disk tools.old.items input.old out.old err.old)
         (outside result.disk tools.new.items input.new out.new err.new) result.status }
 
-    // The rings and the number of tools stay.
+    // Told or not: bad words ask nobody, tools are called no more often than the command may, and a
+    // command without a body leaves the input. The rings and the number of tools stay.
+    ensures asks { AsksOnly (meanings D.meaning C.meaning S.meaning O.meaning E.meaning) (map string_bytes words.now)
+        (outside disk tools.old.items input.old out.old err.old)
+        (outside result.disk tools.new.items input.new out.new err.new) }
     ensures rings { (ring : Ring) → HaveRing C.meaning tools.old.items ring → HaveRing C.meaning tools.new.items ring }
     ensures count { vec_len tools.new ≡ vec_len tools.old }
 

@@ -2,10 +2,11 @@
 
 ghost use Rattle.std.specs.Prelude.{◌≡◌, ◌++◌, IfOk, string_bytes};
 ghost use Rattle.store_core.specs.Texts.{bad_words, bad_name, bad_line, err_line, limit_passed, not_in_the_store};
-ghost use Rattle.store_core.specs.Refusals.{text_of};
+ghost use Rattle.store_core.specs.Refusals.{refusal_text};
 
 use std::alloc::{AllocError, Global};
-use store_core::{Limit, Refusal};
+use store_core::Refusal;
+use store_state::Limit;
 
 fn joined(alloc: Global, first: &str, second: &str) -> Result<String, AllocError>
     ensures { IfOk result (λ text. string_bytes text ≡ first.now ++ second.now) }
@@ -59,7 +60,7 @@ pub(crate) fn limit_passed(limit: Limit) -> &'static str
 
 /// The text of a refusal, where the command was asked for this.
 pub(crate) fn text_of(alloc: Global, refusal: &Refusal, asked: &str) -> Result<String, AllocError>
-    ensures { IfOk result (λ text. string_bytes text ≡ text_of asked.now refusal.now) }
+    ensures { IfOk result (λ text. string_bytes text ≡ refusal_text asked.now refusal.now) }
 {
     match refusal {
         Refusal::NotFound => not_in_the_store(alloc, asked),

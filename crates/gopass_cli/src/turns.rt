@@ -11,7 +11,7 @@ ghost use Rattle.store_core.specs.Show.{plan_show};
 ghost use Rattle.gopass_cli.specs.Words.{unless_bad};
 ghost use Rattle.gopass_cli.specs.Plan.{body_in, most_calls, plan_of};
 ghost use Rattle.gopass_cli.specs.Replies.{said_in};
-ghost use Rattle.gopass_cli.specs.Requests.{bytes_of, takes_body};
+ghost use Rattle.request_body.specs.Given.{bytes_of, takes_body};
 
 use crate::listing::{find, ls, mounts, recipients};
 use crate::reply::{Reply, grant, no_memory, refuse, refuse_name};
@@ -135,7 +135,7 @@ fn body_of(body: &Option<Vec<u8>>) -> &[u8]
 /// output and standard error. Status 14 is want of memory, and has no bytes.
 ///
 /// The store is not stuck, and the body is there where the command takes one. There are 1 to 16
-/// tools, and where they tell their rings these are equal. They stay in their order.
+/// tools, and where they tell their rings these are equal.
 pub fn turn<D: Disk + Send, C: Cipher + Send>(
     alloc: Global,
     store: &mut Store<D>,

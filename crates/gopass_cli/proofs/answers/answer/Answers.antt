@@ -1,17 +1,17 @@
 use Rattle.std.proofs.Common.{inl, inr, ⊎_elim, refl, sym, subst, map, arith}
 use Rattle.std.specs.Prelude.{ℕ, Result, Ok, Err, string_bytes}
 use Rattle.command_words.specs.declared.reading.WordsFault.{WordsFault}
-use Rattle.command_words.specs.Said.{Said as Asked, said as asks}
+use Rattle.command_words.specs.Said.{Asked, asked_by}
 use Rattle.command_words.specs.Words.{words_in}
-use Rattle.command_words.specs.Reads.{Reads}
+use Rattle.command_words.specs.Reads.{ReadsWords}
 use Rattle.store_core.specs.Said.{refused}
 use Rattle.store_core.specs.Texts.{bad_words}
-use Rattle.gopass_cli.specs.Bodies.{input_of}
+use Rattle.request_body.specs.Bodies.{input_of}
 use Rattle.gopass_cli.specs.Opening.{SaysOfCommand}
 use Rattle.gopass_cli.specs.Replies.{said_in}
-use Rattle.gopass_cli.specs.Run.{Runs, RunSays, SaysOfWords, faults_of}
+use Rattle.gopass_cli.specs.Run.{SaidInRun, RunSays, SaysOfWords, faults_of}
 use Rattle.gopass_cli.proofs.RunLemmas.{runs_meant, runs_unsaid, runs_weaker}
-use Rattle.gopass_cli.proofs.SafeLemmas.{same_safe}
+use Rattle.gopass_cli.proofs.SafeLemmas.{same_safe, tells_memory, tells_words}
 use Rattle.gopass_cli.proofs.answers.answer.Goals as goal
 
 pub returns-in-Ok-clause-answers : goal.returns-in-Ok-clause-answers
@@ -23,8 +23,8 @@ returns-in-Ok-clause-answers g c told tells ring have =
     let old = faults_of g.D.Disk.meaning c.args.disk g.C.Cipher.meaning c.args.tools.now.items in
     let new = faults_of g.D.Disk.meaning c.answer_command.result.disk g.C.Cipher.meaning c.answer_command.new.tools.items in
     let said = said_in c.answer_command.result.reply in
-    subst (λ (asked : Result Asked ℕ). Runs (SaysOfWords asked opens root files input ring) old new said) (sym c.in-Ok.ensures)
-    (runs_weaker (SaysOfCommand opens root files input ring c.in-Ok.command) (SaysOfWords (Ok (asks c.in-Ok.command)) opens root files input ring) old new said
+    subst (λ (asked : Result Asked ℕ). SaidInRun (SaysOfWords asked opens root files input ring) old new said) (sym c.in-Ok.ensures)
+    (runs_weaker (SaysOfCommand opens root files input ring c.in-Ok.command) (SaysOfWords (Ok (asked_by c.in-Ok.command)) opens root files input ring) old new said
     (λ events h. (c.in-Ok.command, refl, h)) (c.answer_command.ensures.answers told tells ring have))
 
 pub returns-in-Err-Bad-clause-answers : goal.returns-in-Err-Bad-clause-answers
@@ -34,8 +34,8 @@ returns-in-Err-Bad-clause-answers g c told tells ring have =
     let root = c.args.root.now in
     let files = (g.D.Disk.meaning.view c.args.disk).files in
     let now = faults_of g.D.Disk.meaning c.args.disk g.C.Cipher.meaning c.args.tools.now.items in
-    let bad = subst (λ (fault : WordsFault). Reads (Err fault) (words_in (map string_bytes c.args.words.now))) c.in-Err-Bad.field-0-is c.in-Err-Bad.ensures in
-    subst (λ (asked : Result Asked ℕ). Runs (SaysOfWords asked opens root files input ring) now now (said_in c.refuse_words.result)) (sym bad)
+    let bad = subst (λ (fault : WordsFault). ReadsWords (Err fault) (words_in (map string_bytes c.args.words.now))) c.in-Err-Bad.field-0-is c.in-Err-Bad.ensures in
+    subst (λ (asked : Result Asked ℕ). SaidInRun (SaysOfWords asked opens root files input ring) now now (said_in c.refuse_words.result)) (sym bad)
     (runs_meant (SaysOfWords (Err c.in-Err-Bad.at) opens root files input ring) now now (omega arith) (refused 2 (bad_words c.in-Err-Bad.at)) (said_in c.refuse_words.result) (refl, record { left = refl; faults = refl }) c.refuse_words.ensures)
 
 pub returns-in-Err-NoMemory-clause-answers : goal.returns-in-Err-NoMemory-clause-answers
@@ -45,10 +45,16 @@ returns-in-Err-NoMemory-clause-answers g c told tells ring have =
 
 pub returns-in-Ok-clause-safe : goal.returns-in-Ok-clause-safe
 returns-in-Ok-clause-safe g c told tells ring have before stand =
-    ⊎_elim (λ run. inl run) (λ went. inr (c.in-Ok.command, c.in-Ok.ensures, went)) (c.answer_command.ensures.safe told tells ring have before stand)
+    ⊎_elim (λ none. inl none) (λ went. inr (c.in-Ok.command, c.in-Ok.ensures, went)) (c.answer_command.ensures.safe told tells ring have before stand)
 
 pub returns-in-Err-Bad-clause-safe : goal.returns-in-Err-Bad-clause-safe
-returns-in-Err-Bad-clause-safe g c told tells ring have before stand = inl (same_safe g.C.Cipher.meaning.opens c.args.root.now before (g.D.Disk.meaning.view c.args.disk) stand)
+returns-in-Err-Bad-clause-safe g c told tells ring have before stand = inl (record {
+  tells = tells_words (said_in c.refuse_words.result) (refused 2 (bad_words c.in-Err-Bad.at)) refl c.refuse_words.ensures;
+  any_moment = same_safe g.C.Cipher.meaning.opens c.args.root.now before (g.D.Disk.meaning.view c.args.disk) stand;
+})
 
 pub returns-in-Err-NoMemory-clause-safe : goal.returns-in-Err-NoMemory-clause-safe
-returns-in-Err-NoMemory-clause-safe g c told tells ring have before stand = inl (same_safe g.C.Cipher.meaning.opens c.args.root.now before (g.D.Disk.meaning.view c.args.disk) stand)
+returns-in-Err-NoMemory-clause-safe g c told tells ring have before stand = inl (record {
+  tells = tells_memory (said_in c.no_memory.result) c.no_memory.ensures;
+  any_moment = same_safe g.C.Cipher.meaning.opens c.args.root.now before (g.D.Disk.meaning.view c.args.disk) stand;
+})

@@ -1,16 +1,16 @@
 use Rattle.std.proofs.Common.{inl, refl, sym, subst, arith}
 use Rattle.gopass_base.specs.Text.{Text}
 use Rattle.disk_model.specs.Files.{Files}
-use Rattle.pending_journal.specs.Redo.{StandsFor as StandsForFiles}
+use Rattle.pending_journal.specs.Redo.{RecoversTo}
 use Rattle.pending_journal.proofs.PlanLemmas.{one_meaning}
-use Rattle.store_core.specs.State.{StandsFor}
-use Rattle.gopass_cli.specs.Bodies.{input_of}
+use Rattle.store_state.specs.State.{StandsFor}
+use Rattle.request_body.specs.Bodies.{input_of}
 use Rattle.gopass_cli.specs.Safe.{IsSafe}
 use Rattle.gopass_cli.specs.Opening.{SaysOfCommand}
 use Rattle.gopass_cli.specs.Replies.{said_in}
-use Rattle.gopass_cli.specs.Run.{Runs, faults_of}
+use Rattle.gopass_cli.specs.Run.{SaidInRun, faults_of}
 use Rattle.gopass_cli.proofs.RunLemmas.{runs_later, runs_vault}
-use Rattle.gopass_cli.proofs.SafeLemmas.{opened_safe, safe_after}
+use Rattle.gopass_cli.proofs.SafeLemmas.{found_before, opened_safe, safe_after, tells_vault}
 use Rattle.gopass_cli.proofs.answers.answer_command.Goals as goal
 
 pub returns-in-Ready-clause-answers : goal.returns-in-Ready-clause-answers
@@ -21,13 +21,13 @@ returns-in-Ready-clause-answers g c told tells ring have =
     let opens = g.C.Cipher.meaning.opens in
     let files = (g.D.Disk.meaning.view c.args.disk).files in
     let fresh = c.in-Ready.ensures.ready.0 in
-    let redone = subst (λ (r : Text). StandsForFiles r files (g.D.Disk.meaning.view vault.disk).files) (sym fresh.root_is) (c.in-Ready.ensures.ready.1 told).0 in
+    let redone = subst (λ (r : Text). RecoversTo r files (g.D.Disk.meaning.view vault.disk).files) (sym fresh.root_is) (c.in-Ready.ensures.ready.1 told).0 in
     let old = faults_of g.D.Disk.meaning c.args.disk g.C.Cipher.meaning c.args.tools.now.items in
     let mid = faults_of g.D.Disk.meaning vault.disk g.C.Cipher.meaning c.args.tools.now.items in
     let new = faults_of g.D.Disk.meaning c.answer_vault.result.disk g.C.Cipher.meaning c.answer_vault.new.tools.items in
     let said = said_in c.answer_vault.result.reply in
     let here = c.answer_vault.ensures.answers files redone told tells ring have in
-    let by_root = subst (λ (r : Text). Runs (SaysOfCommand opens r files input ring c.args.command) mid new said) fresh.root_is here in
+    let by_root = subst (λ (r : Text). SaidInRun (SaysOfCommand opens r files input ring c.args.command) mid new said) fresh.root_is here in
     runs_later (SaysOfCommand opens root files input ring c.args.command) old mid new said c.in-Ready.ensures.later (omega arith) by_root
 
 pub returns-in-Refused-clause-answers : goal.returns-in-Refused-clause-answers
@@ -55,10 +55,13 @@ returns-in-Ready-clause-safe g c told tells ring have before stand =
     let same = one_meaning root v0.files was.2.0 v1.files was.2.1 (c.in-Ready.ensures.ready.1 told).0 in
     let here = subst (λ (r : Text). StandsFor opens r v1.files was.0) (sym fresh.root_is) (subst (λ (f : Files). StandsFor opens root f was.0) same was.2.2) in
     let safe = c.answer_vault.ensures.safe was.0 here told tells ring have before was.1 in
-    safe_after opens root ring c.args.command input before v0 v1 v2 f0 f1 f2 c.answer_vault.result.reply.status c.in-Ready.ensures.later (omega arith) first
+    safe_after opens root ring c.args.command input before v0 v1 v2 f0 f1 f2 c.answer_vault.result.reply.status c.in-Ready.ensures.later (omega arith) (found_before opens root v0 v1 (c.in-Ready.ensures.ready.1 told).0 (c.in-Ready.ensures.ready.1 told).1) first
     (subst (λ (r : Text). IsSafe opens r ring c.args.command input before v1 v2 f1 f2 c.answer_vault.result.reply.status) fresh.root_is safe)
 
 pub returns-in-Refused-clause-safe : goal.returns-in-Refused-clause-safe
 returns-in-Refused-clause-safe g c told tells ring have before stand =
     let v0 = g.D.Disk.meaning.view c.args.disk in
-    inl (opened_safe g.C.Cipher.meaning.opens c.args.root.now before v0 (g.D.Disk.meaning.view c.in-Refused.disk) (c.files_are_an_image.ensures told) stand (c.in-Refused.ensures.any_moment told))
+    inl (record {
+      tells = tells_vault c.args.root.now c.in-Refused.fault (said_in c.refuse_vault.result) c.refuse_vault.ensures;
+      any_moment = opened_safe g.C.Cipher.meaning.opens c.args.root.now before v0 (g.D.Disk.meaning.view c.in-Refused.disk) (c.files_are_an_image.ensures told) stand (c.in-Refused.ensures.any_moment told);
+    })

@@ -1,14 +1,15 @@
 use Rattle.std.proofs.Common.{◌≡◌, inl, inr, ap, sym, ◌∙◌, subst, arith}
 use Rattle.store_core.specs.Events.{Events}
 use Rattle.store_core.specs.Said.{Said}
-use Rattle.gopass_cli.specs.Bodies.{input_of}
+use Rattle.request_body.specs.Bodies.{input_of}
 use Rattle.gopass_cli.specs.Plan.{plan_of}
 use Rattle.gopass_cli.specs.Replies.{said_in}
-use Rattle.gopass_cli.specs.Requests.{SaysOfRequest, bytes_of}
-use Rattle.gopass_cli.specs.Run.{Runs, faults_of}
+use Rattle.request_body.specs.Given.{bytes_of}
+use Rattle.gopass_cli.specs.Requests.{SaysOfRequest}
+use Rattle.gopass_cli.specs.Run.{SaidInRun, faults_of}
 use Rattle.gopass_cli.specs.Safe.{IsSafe}
 use Rattle.gopass_cli.proofs.RunLemmas.{runs_weaker, runs_no_body}
-use Rattle.gopass_cli.proofs.SafeLemmas.{same_safe, rest_stands}
+use Rattle.gopass_cli.proofs.SafeLemmas.{same_safe, rest_stands, tells_body}
 use Rattle.gopass_cli.proofs.answers.answer_open.Goals as goal
 
 pub returns-in-Ok-clause-answers : goal.returns-in-Ok-clause-answers
@@ -29,7 +30,7 @@ returns-in-Err-clause-answers g c state stands told tells ring have =
     let input = input_of g.S.Source.meaning c.args.input.now c.take_body.new.input in
     let old = faults_of g.D.Disk.meaning c.args.store.vault.disk g.C.Cipher.meaning c.args.tools.now.items in
     let disk = c.into_disk.ensures ∙ ap (λ v. v.disk) c.into_vault.ensures in
-    subst (λ d. Runs (SaysOfRequest c.args.command input ring state) old (faults_of g.D.Disk.meaning d g.C.Cipher.meaning c.args.tools.now.items) (said_in c.refuse_body.result)) (sym disk)
+    subst (λ d. SaidInRun (SaysOfRequest c.args.command input ring state) old (faults_of g.D.Disk.meaning d g.C.Cipher.meaning c.args.tools.now.items) (said_in c.refuse_body.result)) (sym disk)
     (runs_no_body c.args.command input ring state old old c.in-Err.fault (said_in c.refuse_body.result) (omega arith) c.in-Err.ensures.refused c.refuse_body.ensures)
 
 pub returns-in-Err-clause-safe : goal.returns-in-Err-clause-safe
@@ -41,4 +42,7 @@ returns-in-Err-clause-safe g c state stands told tells ring have before from =
     let old = faults_of g.D.Disk.meaning store.vault.disk g.C.Cipher.meaning c.args.tools.now.items in
     let disk = c.into_disk.ensures ∙ ap (λ v. v.disk) c.into_vault.ensures in
     subst (λ d. IsSafe opens store.vault.root ring c.args.command input before view (g.D.Disk.meaning.view d) old (faults_of g.D.Disk.meaning d g.C.Cipher.meaning c.args.tools.now.items) c.refuse_body.result.status) (sym disk)
-    (inl (same_safe opens store.vault.root before view (rest_stands opens store.vault.root before view state (store.vault.at_rest c.requires.free told) stands from)))
+    (inl (record {
+      tells = tells_body c.in-Err.fault (said_in c.refuse_body.result) c.refuse_body.ensures;
+      any_moment = same_safe opens store.vault.root before view (rest_stands opens store.vault.root before view state (store.vault.at_rest c.requires.free told) stands from);
+    }))

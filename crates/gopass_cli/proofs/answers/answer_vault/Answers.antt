@@ -1,16 +1,17 @@
 use Rattle.std.proofs.Common.{inl, inr, refl, sym, subst, arith}
 use Rattle.gopass_base.specs.Text.{Text}
 use Rattle.disk_model.specs.Files.{Files}
-use Rattle.store_core.specs.State.{StandsFor}
-use Rattle.store_core.proofs.StandsLemmas.{found_state, found_stands}
+use Rattle.store_state.specs.State.{StandsFor}
+use Rattle.store_state.proofs.StandsLemmas.{found_state, found_stands}
 use Rattle.gopass_cli.specs.Opening.{SaysOfCommand}
-use Rattle.gopass_cli.specs.Bodies.{input_of}
+use Rattle.request_body.specs.Bodies.{input_of}
 use Rattle.gopass_cli.specs.Requests.{SaysOfRequest}
+use Rattle.store_core.specs.Performs.{LeftFor}
 use Rattle.gopass_cli.specs.Safe.{IsSafe}
 use Rattle.gopass_cli.specs.Replies.{said_in}
-use Rattle.gopass_cli.specs.Run.{Runs, faults_of}
+use Rattle.gopass_cli.specs.Run.{SaidInRun, faults_of}
 use Rattle.gopass_cli.proofs.RunLemmas.{runs_fault, runs_later, runs_weaker}
-use Rattle.gopass_cli.proofs.SafeLemmas.{rest_stands, rests_safe, safe_after}
+use Rattle.gopass_cli.proofs.SafeLemmas.{rest_stands, rests_safe, safe_after, tells_store}
 use Rattle.gopass_cli.proofs.answers.answer_vault.Goals as goal
 
 pub returns-in-Ready-clause-answers : goal.returns-in-Ready-clause-answers
@@ -41,7 +42,7 @@ returns-in-Refused-clause-answers g c first redone told tells ring have =
     let new = faults_of g.D.Disk.meaning c.in-Refused.vault.disk g.C.Cipher.meaning c.args.tools.now.items in
     let files = (g.D.Disk.meaning.view vault.disk).files in
     let says = SaysOfCommand g.C.Cipher.meaning.opens vault.root first input ring c.args.command in
-    subst (λ d. Runs says old (faults_of g.D.Disk.meaning d g.C.Cipher.meaning c.args.tools.now.items) (said_in c.refuse_store.result)) (sym c.into_disk.ensures)
+    subst (λ d. SaidInRun says old (faults_of g.D.Disk.meaning d g.C.Cipher.meaning c.args.tools.now.items) (said_in c.refuse_store.result)) (sym c.into_disk.ensures)
     (runs_fault g.C.Cipher.meaning.opens vault.root first files input (record { left = refl; faults = refl }) ring c.args.command old new c.in-Refused.fault (said_in c.refuse_store.result) (omega arith) redone (c.in-Refused.ensures.opens told) (λ e. c.in-Refused.ensures.cause.failed e) c.refuse_store.ensures)
 
 pub returns-in-Ready-clause-safe : goal.returns-in-Ready-clause-safe
@@ -61,7 +62,7 @@ returns-in-Ready-clause-safe g c state stands told tells ring have before from =
     let rests = c.in-Ready.ensures.rests told in
     let here = subst (λ (r : Text). StandsFor opens r v1.files state) (sym c.in-Ready.ensures.kept.root) (subst (λ (f : Files). StandsFor opens root f state) (sym rests.files) stands) in
     let safe = subst (λ (r : Text). IsSafe opens r ring c.args.command input before v1 v2 f1 f2 c.answer_open.result.reply.status) c.in-Ready.ensures.kept.root (c.answer_open.ensures.safe state here told tells ring have before from) in
-    safe_after opens root ring c.args.command input before v0 v1 v2 f0 f1 f2 c.answer_open.result.reply.status c.in-Ready.ensures.later (omega arith) (rests_safe opens root before v0 v1 rests stand) safe
+    safe_after opens root ring c.args.command input before v0 v1 v2 f0 f1 f2 c.answer_open.result.reply.status c.in-Ready.ensures.later (omega arith) (λ s left. subst (LeftFor opens root s) rests.files left) (rests_safe opens root before v0 v1 rests stand) safe
 
 pub returns-in-Refused-clause-safe : goal.returns-in-Refused-clause-safe
 returns-in-Refused-clause-safe g c state stands told tells ring have before from =
@@ -72,4 +73,7 @@ returns-in-Refused-clause-safe g c state stands told tells ring have before from
     let f0 = faults_of g.D.Disk.meaning vault.disk g.C.Cipher.meaning c.args.tools.now.items in
     let stand = rest_stands opens vault.root before v0 state (vault.at_rest c.requires.free told) stands from in
     subst (λ d. IsSafe opens vault.root ring c.args.command input before v0 (g.D.Disk.meaning.view d) f0 (faults_of g.D.Disk.meaning d g.C.Cipher.meaning c.args.tools.now.items) c.refuse_store.result.status) (sym c.into_disk.ensures)
-    (inl (rests_safe opens vault.root before v0 (g.D.Disk.meaning.view c.in-Refused.vault.disk) (c.in-Refused.ensures.rests told) stand))
+    (inl (record {
+      tells = tells_store c.in-Refused.fault (said_in c.refuse_store.result) c.refuse_store.ensures;
+      any_moment = rests_safe opens vault.root before v0 (g.D.Disk.meaning.view c.in-Refused.vault.disk) (c.in-Refused.ensures.rests told) stand;
+    }))

@@ -4,7 +4,7 @@ use Rattle.gopass_base.specs.Text.{Text}
 use Rattle.listing_texts.specs.Lines.{on_lines}
 use Rattle.text_search.specs.Search.{names_with}
 use Rattle.store_core.specs.Show.{names_of}
-use Rattle.store_core.proofs.AgreeLemmas.{keys_agree}
+use Rattle.store_state.proofs.AgreeLemmas.{keys_agree}
 use Rattle.gopass_cli.proofs.listing.find.Goals as goal
 
 pub returns-in-Ok-clause-lists : goal.returns-in-Ok-clause-lists

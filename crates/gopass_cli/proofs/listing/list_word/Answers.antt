@@ -5,7 +5,7 @@ use Rattle.mount_table.specs.FaultOf.{folder_fault}
 use Rattle.mount_table.proofs.FaultOfLemmas.{folder_none, folder_some}
 use Rattle.store_core.specs.Said.{Said, Plan, answers}
 use Rattle.store_core.specs.Show.{names_of}
-use Rattle.store_core.proofs.AgreeLemmas.{keys_agree, mounts_agree}
+use Rattle.store_state.proofs.AgreeLemmas.{keys_agree, mounts_agree}
 use Rattle.gopass_cli.specs.Ls.{list_folder}
 use Rattle.gopass_cli.specs.Replies.{Says, said_in}
 use Rattle.gopass_cli.proofs.TurnLemmas.{good_word, bad_word}

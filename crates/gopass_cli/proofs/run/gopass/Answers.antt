@@ -1,12 +1,12 @@
 use Rattle.std.proofs.Common.{◌≢◌, ◌∙◌, inl, inr, ⊎_elim, map}
 use Rattle.std.specs.Prelude.{string_bytes}
-use Rattle.gopass_cli.specs.Bodies.{input_of}
+use Rattle.request_body.specs.Bodies.{input_of}
 use Rattle.gopass_cli.specs.Printed.{printed, stream_of}
 use Rattle.gopass_cli.specs.Replies.{said_in}
 use Rattle.gopass_cli.specs.Run.{RunSays, faults_of}
 use Rattle.gopass_cli.proofs.RunLemmas.{said_calmly}
 use Rattle.gopass_cli.proofs.PrintLemmas.{prints_all, printed_status}
-use Rattle.gopass_cli.proofs.SafeLemmas.{went_printed}
+use Rattle.gopass_cli.proofs.SafeLemmas.{none_printed, went_printed}
 use Rattle.gopass_cli.proofs.run.gopass.Goals as goal
 
 pub returns-clause-ran : goal.returns-clause-ran
@@ -34,4 +34,6 @@ returns-clause-safe g c told tells ring have before stand =
     let f1 = faults_of g.D.Disk.meaning c.answer-reply.result.disk g.C.Cipher.meaning c.answer-reply.new.tools.items in
     let said = said_in c.answer-reply.result.reply in
     let same = printed_status (printed said) c.print-status.result (stream_of g.O.Sink.meaning c.args.out.now) (stream_of g.O.Sink.meaning c.print-status.new.out) (stream_of g.E.Sink.meaning c.args.err.now) (stream_of g.E.Sink.meaning c.print-status.new.err) c.print-status.ensures.printed in
-    ⊎_elim (λ run. inl run) (λ (command, words, went). inr (command, words, went_printed opens root ring command input before v0 v1 f0 f1 said.status c.print-status.result same went)) (c.answer-reply.ensures.safe told tells ring have before stand)
+    ⊎_elim
+    (λ none. inl (none_printed opens root before v0 v1 (printed said) c.print-status.result (stream_of g.O.Sink.meaning c.args.out.now) (stream_of g.O.Sink.meaning c.print-status.new.out) (stream_of g.E.Sink.meaning c.args.err.now) (stream_of g.E.Sink.meaning c.print-status.new.err) c.print-status.ensures.printed none))
+    (λ (command, words, went). inr (command, words, went_printed opens root ring command input before v0 v1 f0 f1 said.status c.print-status.result same went)) (c.answer-reply.ensures.safe told tells ring have before stand)

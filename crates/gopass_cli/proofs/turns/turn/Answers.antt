@@ -9,7 +9,7 @@ use Rattle.store_core.specs.Show.{plan_show}
 use Rattle.gopass_cli.specs.Words.{unless_bad}
 use Rattle.store_core.specs.Insert.{plan_insert}
 use Rattle.gopass_cli.specs.Plan.{plan_of}
-use Rattle.gopass_cli.specs.Requests.{bytes_of}
+use Rattle.request_body.specs.Given.{bytes_of}
 use Rattle.gopass_cli.specs.Ls.{plan_ls}
 use Rattle.gopass_cli.specs.Find.{plan_find}
 use Rattle.gopass_cli.specs.Mounts.{plan_mounts}

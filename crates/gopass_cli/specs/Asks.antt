@@ -1,0 +1,21 @@
+-- Whom a run asks, by its words.
+use Rattle.std.specs.Prelude.{◌≡◌, ◌⊎◌, ℕ, ◌+◌, ◌≤◌, true, List, Ok}
+use Rattle.gopass_base.specs.Text.{Text}
+use Rattle.command_words.specs.Said.{asked_by}
+use Rattle.command_words.specs.Words.{words_in}
+use Rattle.command_words.specs.declared.command.Command.{Command}
+use Rattle.request_body.specs.Bodies.{Input}
+use Rattle.request_body.specs.Given.{IsLeft, takes_body}
+use Rattle.gopass_cli.specs.Plan.{most_calls}
+
+-- the words give this command
+abbrev pub GiveCommand : List Text → Command → Type 0
+GiveCommand words command = words_in words ≡ Ok (asked_by command)
+
+-- no tool is called, or the words give a command, and tools are called no more often than it may
+abbrev pub CallsTools : List Text → (before now : ℕ) → Type 0
+CallsTools words before now = (now ≡ before) ⊎ ((command : Command) × GiveCommand words command × (now ≤ before + most_calls command))
+
+-- nothing is taken of the input, or the words give a command that takes a body
+abbrev pub TakesInput : List Text → Input → Type 0
+TakesInput words input = IsLeft input ⊎ ((command : Command) × GiveCommand words command × (takes_body command ≡ true))
