@@ -12,7 +12,7 @@ const SMALL: [WordRow; 5] = word_table![
 const NONE: [WordRow; 0] = word_table![];
 
 #[test]
-fn words_of_a_table(rt: HostRuntime) -> Result<(), Fail> {
+fn the_words_of_a_table_are_found(rt: HostRuntime) -> Result<(), Fail> {
     for (word, code) in [
         ("", Some(9)),
         ("a", Some(3)),

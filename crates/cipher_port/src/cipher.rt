@@ -1,6 +1,6 @@
 //! What a cipher tool does.
 
-ghost use Rattle.std.specs.Prelude.{◌≡◌, ℕ, List, length, ◌<◌, ◌≤◌, IfOk, Err, vec_len};
+ghost use Rattle.std.specs.Prelude.{◌≡◌, ℕ, length, ◌<◌, ◌≤◌, IfOk, Err, vec_len};
 ghost use Rattle.gopass_base.specs.Text.{Text};
 ghost use Rattle.gopass_base.specs.Faults.{HasCause, counted};
 ghost use Rattle.cipher_port.specs.Tool.{ToolMeaning, Seals, Unseals, TellsIds, IsSealing, made_of};

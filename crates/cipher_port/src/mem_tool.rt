@@ -1,11 +1,11 @@
 //! A tool in memory.
 
-ghost use Rattle.std.specs.Prelude.{◌≡◌, ◌↔◌, ◌<◌, ◌≤◌, ℕ, List, length, not, position, Contains, IfOk, IfSome, IsErr, Err, vec_len};
+ghost use Rattle.std.specs.Prelude.{◌≡◌, ◌↔◌, ◌<◌, ◌≤◌, ℕ, length, not, position, Contains, IfOk, IfSome, IsErr, Err, vec_len};
 ghost use Rattle.std.specs.List.{list_any};
-ghost use Rattle.gopass_base.specs.Calls.{Calls, no_calls, next_calls};
+ghost use Rattle.gopass_base.specs.Calls.{no_calls, next_calls};
 ghost use Rattle.gopass_base.specs.Faults.{HasCause};
 ghost use Rattle.recipient_files.specs.Ids.{is_among};
-ghost use Rattle.cipher_port.specs.Tool.{Ring, Seals, Unseals, TellsIds, made_of};
+ghost use Rattle.cipher_port.specs.Tool.{Seals, Unseals, TellsIds, made_of};
 ghost use Rattle.cipher_port.specs.Standin.{standin_content};
 
 use crate::{

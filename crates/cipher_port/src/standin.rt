@@ -14,7 +14,7 @@ ghost use Rattle.cipher_port.specs.declared.standin.StandinFault.TheVariants.{No
 use crate::{Id, IdFault, Recipients};
 use gopass_base::{NoMemory as NoRoom, cut};
 use hex::FromHexError;
-use std::alloc::{AllocError, AllocFailed, Global};
+use std::alloc::{AllocFailed, Global};
 
 /// For whom a file is sealed, and its body.
 #[derive(Debug, Drop)]
@@ -29,14 +29,6 @@ pub enum StandinFault {
     /// The bytes are the text of no set of recipients and body.
     NotSealed,
     NoMemory,
-}
-
-impl From<AllocError> for StandinFault {
-    ghost from_gives = { λ _ e. e ≡ NoMemory };
-
-    fn from(_: AllocError) -> Self {
-        StandinFault::NoMemory
-    }
 }
 
 impl<T: Drop> From<AllocFailed<T>> for StandinFault {

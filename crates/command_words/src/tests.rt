@@ -149,7 +149,7 @@ const ROWS: &[Row] = &[
 ];
 
 #[test]
-fn words_of_command_lines(rt: HostRuntime) -> Result<(), Fail> {
+fn words_read_or_fail_at_the_first_bad_one(rt: HostRuntime) -> Result<(), Fail> {
     for (words, answer) in ROWS {
         assert_eq!(rt; told(rt.alloc(), words)?.as_str(), *answer, "{words:?}");
     }

@@ -1,6 +1,6 @@
 //! What a crash leaves.
 
-ghost use Rattle.std.specs.Prelude.{◌≡◌, ℕ, IsTrue, IfOk, OnOk, if◌then◌else◌};
+ghost use Rattle.std.specs.Prelude.{◌≡◌, IsTrue, IfOk, OnOk, if◌then◌else◌};
 ghost use Rattle.std.proofs.Math.Dec.{ltb};
 ghost use Rattle.disk_model.specs.Entries.{entries_of, is_rising};
 ghost use Rattle.disk_model.specs.Events.{event_of, entries_made, before, log_of};

@@ -1,16 +1,15 @@
 //! What a disk does.
 
-ghost use Rattle.std.specs.Prelude.{◌≡◌, ℕ, IfOk, OnOk, OnErr, Err, None, Some};
+ghost use Rattle.std.specs.Prelude.{◌≡◌, IfOk, OnOk, OnErr, Err, None, Some};
 ghost use Rattle.gopass_base.specs.Faults.{HasCause};
 ghost use Rattle.disk_model.specs.Files.{put, moved, Writes, Moves, Drops};
-ghost use Rattle.disk_model.specs.Disk.{View, DiskMeaning, IsSound, Rests, Steps, IsMade, Syncs, Only, Stay};
+ghost use Rattle.disk_model.specs.Disk.{DiskMeaning, IsSound, Rests, Steps, IsMade, Syncs, Only, Stay};
 ghost use Rattle.disk_model.specs.Answers.{Reads, IsWithin};
 ghost use Rattle.disk_model.specs.Listing.{Lists, IsShort};
 ghost use Rattle.disk_model.specs.declared.disk.DiskFault.TheVariants.{Failed as failed, NoMemory as no_memory};
 
 use gopass_base::{Failed, NoMemory};
 use mount_table::FilePath;
-use std::alloc::{AllocError, AllocFailed};
 
 /// Why a disk does not do what it was asked.
 #[derive(Clone, Copy, Debug, PartialEq, Eq)]
@@ -32,14 +31,6 @@ impl From<NoMemory> for DiskFault {
     ghost from_gives = { λ _ e. e ≡ no_memory };
 
     fn from(_: NoMemory) -> Self {
-        DiskFault::NoMemory
-    }
-}
-
-impl From<AllocError> for DiskFault {
-    ghost from_gives = { λ _ e. e ≡ no_memory };
-
-    fn from(_: AllocError) -> Self {
         DiskFault::NoMemory
     }
 }

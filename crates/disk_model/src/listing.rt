@@ -1,7 +1,6 @@
 //! The files of a list that lie in a directory.
 
-ghost use Rattle.std.specs.Prelude.{◌≡◌, ◌+◌, ◌≤◌, length, IfOk, MatchOption};
-ghost use Rattle.mount_table.specs.Paths.{path_in};
+ghost use Rattle.std.specs.Prelude.{◌≡◌, IfOk, MatchOption};
 ghost use Rattle.disk_model.specs.Entries.{entries_of};
 ghost use Rattle.disk_model.specs.Listing.{IsAtMost, has_git, lies_in, paths_in, rest_in};
 

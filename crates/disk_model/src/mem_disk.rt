@@ -1,6 +1,6 @@
 //! A disk in memory.
 
-ghost use Rattle.std.specs.Prelude.{◌≡◌, ◌↔◌, ◌≤◌, ◌<◌, ◌-◌, ◌^◌, [], ℕ, List, IfOk, IsErr, OnOk, OnErr, MatchResult, IsTrue, Err, None, Some, Contains};
+ghost use Rattle.std.specs.Prelude.{ℕ, ◌≡◌, ◌↔◌, ◌≤◌, ◌<◌, ◌-◌, ◌^◌, [], IfOk, IsErr, OnOk, OnErr, MatchResult, IsTrue, Err, None, Some, Contains};
 ghost use Rattle.gopass_base.specs.Text.{Text};
 ghost use Rattle.gopass_base.specs.Faults.{HasCause};
 ghost use Rattle.gopass_base.specs.Calls.{no_calls};
@@ -126,11 +126,13 @@ impl MemDisk {
     }
 
     /// The disk as a crash after the first `moment` calls leaves it: the files at the last sync,
-    /// with those of the later steps that are picked.
+    /// with those of the later steps that are picked. A crash since any moment up to this one may
+    /// have left these files.
     pub fn crash(&self, moment: u64, pick: Pick) -> Result<MemDisk, NoMemory>
         requires { moment ≤ self.now.calls.made }
         ensures files { IfOk result (λ disk. disk.entries ≡ picked pick self.now.start (before moment self.now.log)) }
         ensures image { IfOk result (λ disk. Images (files_of self.now.start) (before moment self.now.log) (files_of disk.entries)) }
+        ensures left { IfOk result (λ disk. (t : ℕ) → t ≤ moment → (view_of self.now).left_since t (files_of disk.entries)) }
         ensures start { IfOk result (λ disk. disk.start ≡ disk.entries) }
         ensures log { IfOk result (λ disk. disk.log ≡ []) }
         ensures calls { IfOk result (λ disk. disk.calls ≡ no_calls []) }

@@ -1,6 +1,6 @@
 //! Which calls of a form in memory fail, and how many were made.
 
-ghost use Rattle.std.specs.Prelude.{◌≡◌, ◌↔◌, [], ℕ, List, Contains, IsErr};
+ghost use Rattle.std.specs.Prelude.{◌≡◌, ◌↔◌, Contains, IsErr};
 ghost use Rattle.gopass_base.specs.Faults.{HasCause};
 
 use crate::Failed;

@@ -4,9 +4,11 @@
 mod answers;
 mod call_log;
 mod lines;
+mod order;
 mod text;
 
 pub use answers::{Failed, NoMemory};
 pub use call_log::CallLog;
 pub use lines::cut;
+pub use order::in_order;
 pub use text::{as_text, is_printable};

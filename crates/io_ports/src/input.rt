@@ -1,6 +1,6 @@
 //! Reading all of a source, or a line of it.
 
-ghost use Rattle.std.specs.Prelude.{◌≡◌, ◌≤◌, ◌+◌, ◌++◌, ◌∷◌, ◌↔◌, ℕ, [], vec_len, Err, IsErr, IfOk};
+ghost use Rattle.std.specs.Prelude.{◌≡◌, ◌≤◌, ◌+◌, ◌++◌, ◌∷◌, ◌↔◌, vec_len, Err, IsErr, IfOk};
 ghost use Rattle.gopass_base.specs.Text.{Text};
 ghost use Rattle.gopass_base.specs.Lines.{Lacks};
 ghost use Rattle.gopass_base.specs.Faults.{HasCause};
@@ -9,7 +9,7 @@ ghost use Rattle.io_ports.specs.Input.{ReadsAll, ReadsLine, IsLine, StandsFirst,
 ghost use Rattle.io_ports.specs.declared.input.InputFault.TheVariants.{Failed as failed, NoMemory as no_memory};
 
 use crate::Source;
-use gopass_base::{Failed, NoMemory};
+use gopass_base::Failed;
 use std::alloc::{AllocError, AllocFailed, Global};
 
 /// The most bytes of input that a command takes.
@@ -30,14 +30,6 @@ impl From<Failed> for InputFault {
 
     fn from(_: Failed) -> Self {
         InputFault::Failed
-    }
-}
-
-impl From<NoMemory> for InputFault {
-    ghost from_gives = { λ _ e. e ≡ no_memory };
-
-    fn from(_: NoMemory) -> Self {
-        InputFault::NoMemory
     }
 }
 

@@ -1,6 +1,6 @@
 //! Sinks in memory.
 
-ghost use Rattle.std.specs.Prelude.{◌≡◌, ◌↔◌, ◌≤◌, ◌<◌, ℕ, length, is_ok, IsOk, IsErr, IfOk, Contains, if◌then◌else◌};
+ghost use Rattle.std.specs.Prelude.{◌≡◌, ◌↔◌, ◌≤◌, ◌<◌, length, is_ok, IsOk, IsErr, IfOk, Contains, if◌then◌else◌};
 ghost use Rattle.gopass_base.specs.Faults.{HasCause};
 ghost use Rattle.gopass_base.specs.Calls.{no_calls, next_calls};
 ghost use Rattle.io_ports.specs.Sink.{Puts};

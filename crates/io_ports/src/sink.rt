@@ -1,6 +1,6 @@
 //! Where bytes go.
 
-ghost use Rattle.std.specs.Prelude.{◌≡◌, ◌≤◌, ◌<◌, ℕ, length, IsErr, IfOk, OnOk, OnErr};
+ghost use Rattle.std.specs.Prelude.{◌≤◌, ◌<◌, length, IsErr, IfOk, OnOk, OnErr};
 ghost use Rattle.gopass_base.specs.Faults.{HasCause};
 ghost use Rattle.io_ports.specs.Sink.{SinkMeaning, Took, TookPart, Puts};
 

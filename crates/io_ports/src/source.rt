@@ -1,6 +1,6 @@
 //! Where bytes come from.
 
-ghost use Rattle.std.specs.Prelude.{◌≡◌, ◌≤◌, ◌<◌, length, IsErr, IfOk};
+ghost use Rattle.std.specs.Prelude.{◌≤◌, ◌<◌, length, IsErr, IfOk};
 ghost use Rattle.gopass_base.specs.Faults.{HasCause};
 ghost use Rattle.io_ports.specs.Source.{SourceMeaning, Takes};
 

@@ -1,6 +1,6 @@
 //! Sources in memory.
 
-ghost use Rattle.std.specs.Prelude.{◌≡◌, ◌↔◌, ◌++◌, ◌≤◌, ◌<◌, ℕ, min, length, take, drop, is_ok, IsOk, IsErr, IfOk, Contains, Some, if◌then◌else◌};
+ghost use Rattle.std.specs.Prelude.{◌≡◌, ◌↔◌, ◌++◌, ◌≤◌, ◌<◌, min, length, take, drop, is_ok, IsOk, IsErr, IfOk, Contains, Some, if◌then◌else◌};
 ghost use Rattle.gopass_base.specs.Faults.{HasCause};
 ghost use Rattle.gopass_base.specs.Calls.{no_calls, next_calls};
 ghost use Rattle.io_ports.specs.Source.{Takes};

@@ -33,7 +33,7 @@ fn tree(rt: &HostRuntime, folder: &str, texts: &[&str]) -> Result<String, Fail> 
 }
 
 #[test]
-fn trees(rt: HostRuntime) -> Result<(), Fail> {
+fn a_tree_has_a_line_for_each_folder_and_name(rt: HostRuntime) -> Result<(), Fail> {
     for (folder, texts, want) in [
         ("/", [].as_slice(), ""),
         ("/", &["a", "a/b"], "a\na/\n  b\n"),
@@ -56,7 +56,7 @@ fn trees(rt: HostRuntime) -> Result<(), Fail> {
 }
 
 #[test]
-fn names_on_lines(rt: HostRuntime) -> Result<(), Fail> {
+fn each_name_has_a_line(rt: HostRuntime) -> Result<(), Fail> {
     for (texts, want) in [([].as_slice(), ""), (&["a", "a/b"], "a\na/b\n")] {
         let text = on_lines(rt.alloc(), &names(&rt, texts)?)?;
         assert_eq!(rt; String::from_utf8(text)?.as_str(), want);
@@ -65,7 +65,7 @@ fn names_on_lines(rt: HostRuntime) -> Result<(), Fail> {
 }
 
 #[test]
-fn mounts_on_lines(rt: HostRuntime) -> Result<(), Fail> {
+fn each_mount_has_a_line(rt: HostRuntime) -> Result<(), Fail> {
     let mut mounts = Mounts::only(rt.alloc(), &DirPath::read(rt.alloc(), "root")?)?;
     let work = Folder::read(rt.alloc(), "work")?;
     mounts.add(&work, &DirPath::read(rt.alloc(), "w")?)?;
@@ -89,7 +89,7 @@ fn set(rt: &HostRuntime, rules: &mut Rules, folder: &str, ids: &[&str]) -> Resul
 }
 
 #[test]
-fn rules_on_lines(rt: HostRuntime) -> Result<(), Fail> {
+fn each_rule_has_a_line(rt: HostRuntime) -> Result<(), Fail> {
     let mut rules = Rules::new(rt.alloc());
     assert!(rt; recipients_text(rt.alloc(), &rules)?.is_empty());
     set(&rt, &mut rules, "a/b", &["bob"])?;

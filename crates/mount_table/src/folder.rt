@@ -1,9 +1,13 @@
 //! A folder of secrets, as `mail/work`.
 
-ghost use Rattle.std.specs.Prelude.{◌≡◌, ◌≤◌, ◌↔◌, [], length, IsTrue, IsOk, IfOk, OnOk, Err, MatchOption, false};
+ghost use Rattle.std.specs.Prelude.{◌==◌, ◌≡◌, ◌≤◌, ◌↔◌, [], length, IsTrue, IsOk, IfOk, OnOk, Err, MatchOption, false};
+ghost use Rattle.std.specs.Ordering.{nat_cmp, as_partial_cmp};
+ghost use Rattle.std.specs.Cmp.{partial_order_from_own_ties};
+ghost use Rattle.std.specs.Cmp.Lexicographic.{pointwise, slice_cmp};
+ghost use Rattle.std.specs.Cmp.Rules.{comparing};
+ghost use Rattle.std.proofs.Common.{rules};
 ghost use Rattle.std.specs.Str.{is_utf8};
 ghost use Rattle.gopass_base.specs.Text.{Text};
-ghost use Rattle.mount_table.specs.Names.{parts};
 ghost use Rattle.mount_table.specs.NameFaults.{IsFault};
 ghost use Rattle.mount_table.specs.Prefixes.{Holds, IsPrefix, folder_parts, rest_start};
 ghost use Rattle.mount_table.specs.Folders.{IsFolder, IsFolderText, IsFolderFault, without_slash};
@@ -130,11 +134,6 @@ impl Folder {
 }
 
 impl PartialEq for Folder {
-    ghost use Rattle.std.specs.Prelude.{◌==◌};
-    ghost use Rattle.std.specs.Cmp.Lexicographic.{pointwise};
-    ghost use Rattle.std.specs.Cmp.Rules.{comparing};
-    ghost use Rattle.std.proofs.Common.{rules};
-
     ghost eq = { pointwise ◌==◌ };
 
     ghost laws = { Prim.search (comparing, rules) };
@@ -145,19 +144,11 @@ impl PartialEq for Folder {
 }
 
 impl Eq for Folder {
-    ghost use Rattle.std.specs.Cmp.Rules.{comparing};
-    ghost use Rattle.std.proofs.Common.{rules};
-
     ghost laws = { Prim.search (comparing, rules) };
 }
 
 /// By the bytes of their texts.
 impl Ord for Folder {
-    ghost use Rattle.std.specs.Ordering.{nat_cmp};
-    ghost use Rattle.std.specs.Cmp.Lexicographic.{slice_cmp};
-    ghost use Rattle.std.specs.Cmp.Rules.{comparing};
-    ghost use Rattle.std.proofs.Common.{rules};
-
     ghost cmp = { slice_cmp nat_cmp };
 
     ghost total = { Prim.search (comparing, rules) };
@@ -172,12 +163,6 @@ impl Ord for Folder {
 }
 
 impl PartialOrd for Folder {
-    ghost use Rattle.std.specs.Ordering.{nat_cmp, as_partial_cmp};
-    ghost use Rattle.std.specs.Cmp.{partial_order_from_own_ties};
-    ghost use Rattle.std.specs.Cmp.Lexicographic.{slice_cmp};
-    ghost use Rattle.std.specs.Cmp.Rules.{comparing};
-    ghost use Rattle.std.proofs.Common.{rules};
-
     ghost partial_cmp = { as_partial_cmp (slice_cmp nat_cmp) };
 
     ghost laws = { partial_order_from_own_ties (Prim.search (comparing, rules)) (Prim.search (comparing, rules)) };

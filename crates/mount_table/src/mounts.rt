@@ -1,10 +1,10 @@
 //! The mounts of a store: its directories, each under an alias.
 
-ghost use Rattle.std.specs.Prelude.{◌≡◌, ◌↔◌, ◌<◌, ◌≤◌, ◌+◌, ℕ, List, [], ◌∷◌, IsTrue, IfOk, OnOk, Err, MatchOption, length, true};
+ghost use Rattle.std.specs.Prelude.{◌≡◌, ◌<◌, ◌≤◌, ℕ, List, [], ◌∷◌, IfOk, Err, MatchOption, length, true};
 ghost use Rattle.std.specs.List.{slice_set};
 ghost use Rattle.gopass_base.specs.Text.{Text};
-ghost use Rattle.mount_table.specs.Prefixes.{Holds, IsPrefix, Nest, folder_parts, rest_start};
-ghost use Rattle.mount_table.specs.Mounts.{IsRow, IsTable, IsBelow, IsMountOf, IsMountOfFolder, IsFileOf, HasAliasAt, LacksAlias, IsFirstNest, IsApart, new_row, root_of, row_at};
+ghost use Rattle.mount_table.specs.Prefixes.{Holds, folder_parts, rest_start};
+ghost use Rattle.mount_table.specs.Mounts.{IsTable, IsBelow, IsMountOf, IsMountOfFolder, IsFileOf, HasAliasAt, LacksAlias, IsFirstNest, IsApart, new_row, root_of, row_at};
 ghost use Rattle.mount_table.specs.MountOf.{mount_of};
 ghost use Rattle.mount_table.specs.MountsText.{table_text, IsFirstBad};
 ghost use Rattle.mount_table.specs.MountChanges.{AddsMount, RemovesMount};
@@ -16,7 +16,7 @@ use crate::mounts_text::{MountsFault, rows_of, text_of_rows};
 use crate::name::Name;
 use crate::path::{DirPath, FilePath};
 use gopass_base::NoMemory;
-use std::alloc::{AllocError, AllocFailed, Global};
+use std::alloc::{AllocFailed, Global};
 use std::marker::Model;
 
 /// A directory of the disk that is mounted under an alias, and whether its changes are recorded

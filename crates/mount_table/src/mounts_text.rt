@@ -1,12 +1,11 @@
 //! The file of mounts: the one text that they have, as it is read and written.
 
-ghost use Rattle.std.specs.Prelude.{◌≡◌, ◌≢◌, ◌↔◌, ◌<◌, ◌+◌, ℕ, Bool, [], ◌∷◌, ◌++◌, List, IsTrue, IfOk, OnOk, Err, MatchOption, length};
+ghost use Rattle.std.specs.Prelude.{◌≡◌, ◌≢◌, ◌↔◌, ◌<◌, ◌+◌, ℕ, Bool, [], ◌∷◌, ◌++◌, IsTrue, IfOk, OnOk, Err, MatchOption, length};
 ghost use Rattle.std.specs.Str.{is_utf8};
 ghost use Rattle.gopass_base.specs.Lines.{Lacks};
-ghost use Rattle.gopass_base.specs.Text.{Text};
 ghost use Rattle.mount_table.specs.Folders.{IsFolder};
 ghost use Rattle.mount_table.specs.Paths.{IsDirPath};
-ghost use Rattle.mount_table.specs.Mounts.{IsRow, IsBefore, AreRows, IsTable, row_at};
+ghost use Rattle.mount_table.specs.Mounts.{IsRow, IsBefore, IsTable, row_at};
 ghost use Rattle.mount_table.specs.MountsText.{flag_of, line_of, table_text, CanFollow, IsFirstBad};
 ghost use Rattle.mount_table.specs.declared.mounts.Row.{Row};
 ghost use Rattle.mount_table.specs.declared.mounts_text.MountsFault.TheVariants.{NoMemory};
@@ -138,7 +137,7 @@ fn can_follow(root: &DirPath, rows: &[Row], row: &Row) -> bool
     ensures { IsTrue result ↔ CanFollow root.now rows.now row.now }
 {
     if rows.is_empty() {
-        return row.alias.text().is_empty() && row.dir == *root;
+        return row.alias.text().is_empty() && row.dir.text() == root.text();
     }
     rows.len() < 64 && stands_behind(row, rows)
 }

@@ -1,6 +1,6 @@
 //! What names and paths ask of their parts.
 
-ghost use Rattle.std.specs.Prelude.{◌≡◌, ◌≢◌, ◌↔◌, ◌≤◌, ℕ, List, IsTrue, All, length};
+ghost use Rattle.std.specs.Prelude.{◌≡◌, ◌≢◌, ◌↔◌, ◌≤◌, List, IsTrue, All, length};
 ghost use Rattle.std.specs.List.{join_with_byte};
 ghost use Rattle.gopass_base.specs.Text.{Text};
 ghost use Rattle.mount_table.specs.Names.{parts, IsHidden, IsSealedName};

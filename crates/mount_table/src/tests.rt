@@ -21,7 +21,7 @@ fn name_fault(at: usize, kind: NameKind) -> Option<NameFault> {
 }
 
 #[test]
-fn names(rt: HostRuntime) -> Result<(), Fail> {
+fn names_read_or_fail_at_their_first_fault(rt: HostRuntime) -> Result<(), Fail> {
     for (text, fault) in [
         ("a/b", None),
         ("y/x.gpg", None),
@@ -50,7 +50,7 @@ fn names(rt: HostRuntime) -> Result<(), Fail> {
 }
 
 #[test]
-fn names_below_a_name(rt: HostRuntime) -> Result<(), Fail> {
+fn a_name_holds_the_names_below_it(rt: HostRuntime) -> Result<(), Fail> {
     let outer = Name::read(rt.alloc(), "a")?;
     for (name, holds) in [("a/b", true), ("a", false), ("ab/c", false)] {
         let name = Name::read(rt.alloc(), name)?;
@@ -62,7 +62,7 @@ fn names_below_a_name(rt: HostRuntime) -> Result<(), Fail> {
 const BAD: Option<PathFault> = Some(PathFault::Bad);
 
 #[test]
-fn paths(rt: HostRuntime) -> Result<(), Fail> {
+fn paths_read_within_their_limits(rt: HostRuntime) -> Result<(), Fail> {
     let dir = DirPath::read(rt.alloc(), "base/work")?;
     for (text, of_file, of_dir, within) in [
         ("base", None, None, None),
@@ -112,7 +112,7 @@ fn paths(rt: HostRuntime) -> Result<(), Fail> {
 }
 
 #[test]
-fn order_of_paths(rt: HostRuntime) -> Result<(), Fail> {
+fn paths_are_in_the_order_of_their_bytes(rt: HostRuntime) -> Result<(), Fail> {
     let dir = DirPath::read(rt.alloc(), "a")?;
     let inner = FilePath::read(rt.alloc(), "a/b")?;
     let next = FilePath::read(rt.alloc(), "a0")?;
@@ -123,7 +123,7 @@ fn order_of_paths(rt: HostRuntime) -> Result<(), Fail> {
 }
 
 #[test]
-fn files_in_a_directory(rt: HostRuntime) -> Result<(), Fail> {
+fn a_directory_names_its_files(rt: HostRuntime) -> Result<(), Fail> {
     let root = DirPath::read(rt.alloc(), "root")?;
     for (name, file) in [
         ("web/site", "root/web/site.gpg"),
@@ -143,7 +143,7 @@ fn files_in_a_directory(rt: HostRuntime) -> Result<(), Fail> {
 }
 
 #[test]
-fn folders(rt: HostRuntime) -> Result<(), Fail> {
+fn folders_read_with_a_slash_or_without(rt: HostRuntime) -> Result<(), Fail> {
     for (text, fault) in [
         ("/", None),
         ("a", None),
@@ -196,7 +196,7 @@ fn work_mounts(rt: &HostRuntime) -> Result<Mounts, Fail> {
 }
 
 #[test]
-fn mount_of_a_name(rt: HostRuntime) -> Result<(), Fail> {
+fn the_mount_of_a_name_has_the_longest_alias(rt: HostRuntime) -> Result<(), Fail> {
     let mounts = work_mounts(&rt)?;
     for (name, row, from, file) in [
         ("work/db/x", 2, 8, "d/x.gpg"),
@@ -262,7 +262,7 @@ fn at_most_64_mounts(rt: HostRuntime) -> Result<(), Fail> {
 }
 
 #[test]
-fn text_of_mounts(rt: HostRuntime) -> Result<(), Fail> {
+fn mounts_are_written_as_they_are_read(rt: HostRuntime) -> Result<(), Fail> {
     let root = DirPath::read(rt.alloc(), "root")?;
     let text = b"\troot\tplain\nwork\tw\tplain\nwork/db\td\tplain\n";
     let mounts = work_mounts(&rt)?.copy()?;

@@ -1,8 +1,7 @@
 //! Two lists that stand for a map: folders that rise, and the set of each.
 
-ghost use Rattle.std.specs.Prelude.{◌≡◌, ◌<◌, ◌≤◌, ◌+◌, length, T, vec_len, vec_capacity, IfOk, OnOk};
+ghost use Rattle.std.specs.Prelude.{◌≡◌, ◌<◌, ◌≤◌, ◌+◌, vec_len, vec_capacity, IfOk, OnOk};
 ghost use Rattle.std.specs.List.{insert};
-ghost use Rattle.gopass_base.specs.Text.{Text};
 ghost use Rattle.path_rules.specs.RuleMap.{IsSpot, Rise};
 
 use gopass_base::NoMemory;

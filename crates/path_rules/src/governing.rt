@@ -1,6 +1,6 @@
 //! Which rule governs a secret.
 
-ghost use Rattle.std.specs.Prelude.{◌≡◌, ◌<◌, ℕ, T, length, Option, option_map};
+ghost use Rattle.std.specs.Prelude.{◌≡◌, ◌<◌, ℕ, length, Option};
 ghost use Rattle.gopass_base.specs.Text.{Text};
 ghost use Rattle.mount_table.specs.Names.{parts, IsName};
 ghost use Rattle.mount_table.specs.NameFaults.{start_of};

@@ -1,6 +1,6 @@
 //! The rules of a store: folders, and the recipients of what is below each.
 
-ghost use Rattle.std.specs.Prelude.{◌≡◌, ◌<◌, ℕ, List, length, None, Some, option_map, IfOk, MatchOption};
+ghost use Rattle.std.specs.Prelude.{◌≡◌, ◌<◌, ℕ, length, None, Some, option_map, IfOk};
 ghost use Rattle.std.specs.FinMap as map;
 ghost use Rattle.mount_table.specs.Names.{parts};
 ghost use Rattle.mount_table.specs.NameFaults.{start_of};
@@ -14,7 +14,7 @@ use crate::governing::nearest;
 use gopass_base::NoMemory as NoRoom;
 use mount_table::{Folder, Mounts, Name, Place};
 use recipient_files::Recipients;
-use std::alloc::{AllocError, Global};
+use std::alloc::Global;
 use std::marker::Model;
 
 /// The most folders that have a rule.
@@ -32,14 +32,6 @@ impl From<NoRoom> for RulesFault {
     ghost from_gives = { λ _ e. e ≡ NoMemory };
 
     fn from(_: NoRoom) -> Self {
-        RulesFault::NoMemory
-    }
-}
-
-impl From<AllocError> for RulesFault {
-    ghost from_gives = { λ _ e. e ≡ NoMemory };
-
-    fn from(_: AllocError) -> Self {
         RulesFault::NoMemory
     }
 }
@@ -144,8 +136,9 @@ impl Rules {
     }
 
     /// The rule that governs the secret: that of the longest folder that holds the name and has at
-    /// least the parts of the alias of its mount, which end where `place.from` is. At each part of
-    /// the name from `place.from` on one folder is looked up, and nothing is allocated.
+    /// least the parts of the alias of its mount, which end where `place.from` is; a part of the name
+    /// begins there. At each part of the name from `place.from` on one folder is looked up, and
+    /// nothing is allocated.
     pub fn governing(&self, name: &Name, place: &Place) -> Option<&Recipients>
         requires { IsPartStart name.now place.now.from }
         ensures rule { (least : ℕ) → least < length (parts name.now) → place.now.from ≡ start_of (parts name.now) least

@@ -213,7 +213,7 @@ fn affected_texts(
 }
 
 #[test]
-fn names_that_a_change_is_about(rt: HostRuntime) -> Result<(), Fail> {
+fn a_change_affects_the_names_that_it_governs(rt: HostRuntime) -> Result<(), Fail> {
     let mounts = mounts_of(rt.alloc(), &["work"])?;
     let names = names_of(rt.alloc(), &["a/bc", "a/b/c", "a/b", "work/x"])?;
     let before = rules_of(rt.alloc(), &[("/", "alice"), ("a/b", "bob")])?;

@@ -2,33 +2,16 @@
 use Rattle.std.proofs.Common.{arith, ◌≡◌, ◌≢◌, ◌≤◌, ◌<◌, ℕ, ◌+◌, [], ◌∷◌, ◌++◌, length, take, get_or, All, nat_eq, refl, sym, ap, ◌∙◌}
 use Rattle.gopass_base.specs.Text.{Text}
 use Rattle.std.specs.List.Retain.{DiffersFromLast, IsFiltered}
-use Rattle.std.specs.List.Sorted.{IsSorted, IsPermutation}
-use Rattle.std.specs.Ordering.{nat_cmp}
-use Rattle.std.specs.Cmp.Lexicographic.{pointwise, slice_cmp, texts_ties}
-use Rattle.std.proofs.lemmas.Cmp.{nat_list_cmp_total, nat_list_eq_equiv}
+use Rattle.std.specs.List.Sorted.{IsPermutation}
+use Rattle.std.specs.Cmp.Lexicographic.{pointwise}
 use Rattle.std.proofs.lemmas.List.Filters.{dedup_is, All-dedup}
-use Rattle.std.proofs.lemmas.List.Kept.{IsStrictlySortedBy-dedup, Contains-dedup, Contains-from_dedup}
-use Rattle.std.proofs.lemmas.List.Sorted.{All-permutation, Contains-permutation, IsPermutation-sym}
+use Rattle.std.proofs.lemmas.List.Sorted.{All-permutation}
 use Rattle.std.proofs.lemmas.List.{take_more}
 use Rattle.std.proofs.lemmas.List.Elements.{All-push}
-use Rattle.std.proofs.lemmas.Slice.Eq.{bytes_eq-Decides}
 use Rattle.gopass_base.specs.Order.{IsSetOf}
 use Rattle.recipient_files.specs.Ids.{Ids, IsId, IsRecipients}
 
--- what is left of the sorted ids is the set of the ids
-pub set_of_sorted : (ids sorted set : Ids) → IsPermutation ids sorted → IsSorted (slice_cmp nat_cmp) sorted
-    → IsFiltered (DiffersFromLast (pointwise nat_eq)) [] sorted set → IsSetOf set ids
-set_of_sorted ids sorted set moved rises kept =
-    let is = dedup_is (pointwise nat_eq) sorted set kept in
-    record {
-      rising = rw is (IsStrictlySortedBy-dedup nat_list_cmp_total texts_ties sorted rises);
-      same = λ id. (
-        λ h. Contains-permutation sorted ids id (IsPermutation-sym ids sorted moved) (Contains-from_dedup (pointwise nat_eq) sorted id (rw is at h)),
-        λ h. rw is (Contains-dedup nat_list_eq_equiv (λ x y e. (bytes_eq-Decides x y).0 e) sorted id (Contains-permutation ids sorted id moved h)),
-      );
-    }
-
--- and each of it is an id
+-- each of what is left of the sorted ids is an id
 pub ids_of_sorted : (ids sorted set : Ids) → IsPermutation ids sorted
     → IsFiltered (DiffersFromLast (pointwise nat_eq)) [] sorted set → All IsId ids → All IsId set
 ids_of_sorted ids sorted set moved kept each =

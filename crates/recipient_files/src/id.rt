@@ -1,7 +1,11 @@
 //! The id of a recipient.
 
-ghost use Rattle.std.specs.Prelude.{◌≡◌, ◌≢◌, ◌↔◌, ◌-◌, ◌≤◌, ℕ, length, slice_index, IsTrue, IsOk, IfOk, Err, All};
-ghost use Rattle.gopass_base.specs.Text.{IsPrintable};
+ghost use Rattle.std.specs.Prelude.{◌==◌, ◌≡◌, ◌≢◌, ◌↔◌, ◌-◌, ◌≤◌, length, slice_index, IsTrue, IsOk, IfOk, Err, All};
+ghost use Rattle.std.specs.Ordering.{nat_cmp, as_partial_cmp};
+ghost use Rattle.std.specs.Cmp.{partial_order_from_own_ties};
+ghost use Rattle.std.specs.Cmp.Lexicographic.{pointwise, slice_cmp};
+ghost use Rattle.std.specs.Cmp.Rules.{comparing};
+ghost use Rattle.std.proofs.Common.{rules};
 ghost use Rattle.recipient_files.specs.Ids.{IsId, CanBegin};
 ghost use Rattle.recipient_files.specs.declared.id.IdFault.TheVariants.{NoMemory};
 
@@ -79,11 +83,6 @@ impl Id {
 }
 
 impl PartialEq for Id {
-    ghost use Rattle.std.specs.Prelude.{◌==◌};
-    ghost use Rattle.std.specs.Cmp.Lexicographic.{pointwise};
-    ghost use Rattle.std.specs.Cmp.Rules.{comparing};
-    ghost use Rattle.std.proofs.Common.{rules};
-
     ghost eq = { pointwise ◌==◌ };
 
     ghost laws = { Prim.search (comparing, rules) };
@@ -94,19 +93,11 @@ impl PartialEq for Id {
 }
 
 impl Eq for Id {
-    ghost use Rattle.std.specs.Cmp.Rules.{comparing};
-    ghost use Rattle.std.proofs.Common.{rules};
-
     ghost laws = { Prim.search (comparing, rules) };
 }
 
 /// By the bytes of their texts.
 impl Ord for Id {
-    ghost use Rattle.std.specs.Ordering.{nat_cmp};
-    ghost use Rattle.std.specs.Cmp.Lexicographic.{slice_cmp};
-    ghost use Rattle.std.specs.Cmp.Rules.{comparing};
-    ghost use Rattle.std.proofs.Common.{rules};
-
     ghost cmp = { slice_cmp nat_cmp };
 
     ghost total = { Prim.search (comparing, rules) };
@@ -121,12 +112,6 @@ impl Ord for Id {
 }
 
 impl PartialOrd for Id {
-    ghost use Rattle.std.specs.Ordering.{nat_cmp, as_partial_cmp};
-    ghost use Rattle.std.specs.Cmp.{partial_order_from_own_ties};
-    ghost use Rattle.std.specs.Cmp.Lexicographic.{slice_cmp};
-    ghost use Rattle.std.specs.Cmp.Rules.{comparing};
-    ghost use Rattle.std.proofs.Common.{rules};
-
     ghost partial_cmp = { as_partial_cmp (slice_cmp nat_cmp) };
 
     ghost laws = { partial_order_from_own_ties (Prim.search (comparing, rules)) (Prim.search (comparing, rules)) };
@@ -176,7 +161,7 @@ mod tests {
     use std::test::Fail;
 
     #[test]
-    fn texts_that_are_ids(rt: HostRuntime) -> Result<(), Fail> {
+    fn ids_are_read(rt: HostRuntime) -> Result<(), Fail> {
         let longest = "i".repeat(rt.alloc(), 200)?;
         for text in ["alice", "a b", "Zoë <zoe@example.org>", longest.as_str()] {
             let id = Id::read(rt.alloc(), text)?;
@@ -186,7 +171,7 @@ mod tests {
     }
 
     #[test]
-    fn texts_that_are_no_ids(rt: HostRuntime) -> Result<(), Fail> {
+    fn texts_that_are_no_ids_are_refused(rt: HostRuntime) -> Result<(), Fail> {
         let too_long = "i".repeat(rt.alloc(), 201)?;
         for text in [
             "",

@@ -1,9 +1,10 @@
 //! A set of recipients.
 
-ghost use Rattle.std.specs.Prelude.{◌≡◌, ◌≢◌, ◌↔◌, ◌<◌, ◌≤◌, [], ◌∷◌, ◌++◌, ℕ, List, length, IsTrue, IsOk, IfOk, Err, All, Contains, MatchResult};
+ghost use Rattle.std.specs.Prelude.{◌≡◌, ◌≢◌, ◌↔◌, ◌<◌, ◌≤◌, [], ◌∷◌, ◌++◌, length, IsTrue, IsOk, IfOk, Err, All, Contains, MatchResult};
 ghost use Rattle.gopass_base.specs.Text.{Text};
 ghost use Rattle.gopass_base.specs.Order.{IsSetOf};
 ghost use Rattle.recipient_files.specs.Ids.{Ids, IsId, IsRecipients, is_among, without};
+ghost use Rattle.recipient_files.specs.IdText.{is_id};
 ghost use Rattle.recipient_files.specs.Changes.{AddsId, RemovesId};
 ghost use Rattle.recipient_files.specs.RuleText.{IsRule, ids_of, first_bad_line, rule_text};
 ghost use Rattle.recipient_files.specs.RuleReads.{ReadsRuleText};
@@ -12,7 +13,7 @@ ghost use Rattle.recipient_files.specs.declared.recipients.IdAddFault.TheVariant
 
 use crate::rule::read_lines;
 use crate::{Id, RuleFault, RuleKind};
-use gopass_base::NoMemory as NoRoom;
+use gopass_base::{NoMemory as NoRoom, in_order};
 use std::alloc::{AllocFailed, Global};
 use std::marker::Model;
 
@@ -191,10 +192,12 @@ impl Recipients {
     }
 }
 
-/// What is written for a set is read as that set, and no text is read as two sets.
+/// What is written for a set is read as that set, and no text is read as two sets. An id is tested as
+/// it is defined.
 pub fn rule_texts()
     ensures written { (set : Ids) → IsRecipients set → IsRule set (rule_text set) }
     ensures one_set { (set other : Ids) (text : Text) → IsRule set text → IsRule other text → set ≡ other }
+    ensures ids { (text : Text) → IsTrue (is_id text) ↔ IsId text }
 {}
 
 fn are_same(ids: &[Id], others: &[Id]) -> bool
@@ -240,10 +243,7 @@ fn set_of(ids: Vec<Id>) -> Vec<Id>
     ensures each { All IsId ids.items → All IsId result.items }
     ensures few { length result.items ≤ length ids.items }
 {
-    let mut set = ids;
-    set.sort_unstable();
-    set.dedup();
-    set
+    in_order(ids)
 }
 
 /// Copies of the ids, and one of one more.

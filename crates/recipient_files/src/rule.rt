@@ -1,6 +1,6 @@
 //! The text of a rule file, which names the recipients of what is below its folder.
 
-ghost use Rattle.std.specs.Prelude.{◌≡◌, [], ℕ, option_map};
+ghost use Rattle.std.specs.Prelude.{◌≡◌, [], option_map};
 ghost use Rattle.gopass_base.specs.Lines.{pieces_of};
 ghost use Rattle.recipient_files.specs.Ids.{IsId};
 ghost use Rattle.recipient_files.specs.RuleText.{before_hash, trim_start, trim_end, left_of, text_fault, room_fault, line_fault, with_id, with_line, bad_at, bad_from, ids_from};

@@ -3,7 +3,7 @@ use mount_table::Name;
 use std::test::*;
 
 #[test]
-fn texts_in_bytes(rt: HostRuntime) -> Result<(), Fail> {
+fn a_text_is_found_in_bytes(rt: HostRuntime) -> Result<(), Fail> {
     for (bytes, text, is_had) in [
         ("abc", "a", true),
         ("abc", "bc", true),
@@ -24,7 +24,7 @@ fn texts_in_bytes(rt: HostRuntime) -> Result<(), Fail> {
 }
 
 #[test]
-fn names_that_have_a_text(rt: HostRuntime) -> Result<(), Fail> {
+fn names_that_have_a_text_are_found(rt: HostRuntime) -> Result<(), Fail> {
     let mut names = Vec::new(rt.alloc());
     for name in ["web/site", "mail/web", "x"] {
         names.push(Name::read(rt.alloc(), name)?)?;

@@ -40,7 +40,7 @@ fn again(alloc: Global, bytes: &[u8]) -> Result<Vec<u8>, RuleFault> {
 }
 
 #[test]
-fn files_that_name_a_set(rt: HostRuntime) -> Result<(), Fail> {
+fn a_rule_file_is_read_as_its_set(rt: HostRuntime) -> Result<(), Fail> {
     for (bytes, want) in [
         ("bob # office\n\nalice\nbob\n", "alice\nbob\n"),
         ("alice\nbob", "alice\nbob\n"),
@@ -57,7 +57,7 @@ fn files_that_name_a_set(rt: HostRuntime) -> Result<(), Fail> {
 }
 
 #[test]
-fn files_with_a_bad_line(rt: HostRuntime) -> Result<(), Fail> {
+fn the_first_bad_line_of_a_rule_file_is_told(rt: HostRuntime) -> Result<(), Fail> {
     for (bytes, line, kind) in [
         (b"alice\nbob\r\n".as_slice(), 2, RuleKind::BadId),
         (b"# none\n".as_slice(), 0, RuleKind::None),
@@ -75,7 +75,7 @@ fn files_with_a_bad_line(rt: HostRuntime) -> Result<(), Fail> {
 }
 
 #[test]
-fn files_with_many_ids(rt: HostRuntime) -> Result<(), Fail> {
+fn a_rule_file_names_64_ids_at_most(rt: HostRuntime) -> Result<(), Fail> {
     let most = numbered_file(rt.alloc(), 64)?;
     let set = Recipients::read(rt.alloc(), most.as_bytes())?;
     assert_eq!(rt; set.ids().len(), 64);

@@ -1,4 +1,4 @@
-use Rattle.std.proofs.Common.{◌-◌, ◌≤◌, vec_len}
+use Rattle.std.proofs.Common.{◌-◌, ◌≡◌, ◌≤◌, vec_len}
 use Rattle.io_ports.specs.Source.{Told, Came}
 use Rattle.io_ports.proofs.input.read_all.Given as goal
 
@@ -6,7 +6,7 @@ abbrev pub invariant-loop-bytes : goal.invariant-loop-bytes
 invariant-loop-bytes g l = record {
   inside : vec_len l.bytes ≤ l.max;
   came : Told (Came l.bytes.items) (g.S.Source.meaning.left l.initial.input) (g.S.Source.meaning.left l.input);
-  later : g.S.Source.meaning.faults l.initial.input ≤ g.S.Source.meaning.faults l.input;
+  stays : g.S.Source.meaning.faults l.input ≡ g.S.Source.meaning.faults l.initial.input;
 }
 
 abbrev pub decreases-loop-bytes : goal.decreases-loop-bytes

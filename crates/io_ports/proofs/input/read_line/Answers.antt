@@ -46,7 +46,7 @@ loop-line-preserved g c =
       whole = ap (cut_at 10) grown ∙ none_behind old byte c.loop-line.invariant.whole c.if-byte-eq10.false;
       came = subst (λ (t : Text). Told (Came t) (g.S.Source.meaning.left c.args.input.now) (g.S.Source.meaning.left c.next_byte.new.input)) (sym grown)
           (told_two _ _ _ (came_two old (byte ∷ [])) _ _ _ c.loop-line.invariant.came next);
-      later = search rules;
+      stays = search rules;
     }
 
 pub returns-in_err-push-2-clause-read : goal.returns-in_err-push-2-clause-read

@@ -9,7 +9,7 @@ invariant-loop-line g l = record {
   inside : vec_len l.line ≤ l.max;
   whole : cut_at 10 l.line.items ≡ None;
   came : Told (Came l.line.items) (g.S.Source.meaning.left l.initial.input) (g.S.Source.meaning.left l.input);
-  later : g.S.Source.meaning.faults l.initial.input ≤ g.S.Source.meaning.faults l.input;
+  stays : g.S.Source.meaning.faults l.input ≡ g.S.Source.meaning.faults l.initial.input;
 }
 
 abbrev pub decreases-loop-line : goal.decreases-loop-line
