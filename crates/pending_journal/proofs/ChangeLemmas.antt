@@ -13,7 +13,7 @@ use Rattle.pending_journal.specs.declared.put.Put.{Put}
 use Rattle.pending_journal.specs.declared.change.Change.{Change}
 use Rattle.pending_journal.specs.Built.{IsBuilt}
 use Rattle.pending_journal.specs.Change.{plan_in, contents_of, put_at}
-use Rattle.pending_journal.specs.Carrying.{IsOfPlan, IsStaged, IsFetched, IsRemoved}
+use Rattle.pending_journal.specs.Carrying.{IsOfPlan, IsStaged, IsFetched, IsRemoved, IsSameBut}
 use Rattle.pending_journal.proofs.ServiceLemmas.{service_journal, stage_service, stage_not_journal, stage_not_fresh, stage_one}
 use Rattle.pending_journal.proofs.RedoLemmas.{apart, redone_same}
 
@@ -235,31 +235,31 @@ module _ (root : Text) (change : Change) (ok : IsBuilt root change.journal chang
                 ]
           ]
 
-  -- a remove of the plan
-  pub drop_step : (i : ℕ) (d : Text) → i < length change.drops.items → (m : Files) → IsOfPlan root (plan_in change) m (put m (get_or change.drops.items i d) None)
-  drop_step i d lt m =
-      let p = get_or change.drops.items i d in
-      record {
-        journal = put_apart m p (journal_path root) None (λ e. apart root (journal_path root) p (service_journal root) (plain_drop i d lt) (sym e));
-        redone = redone_is (put m p None) ∙ redone_same root (moves_of puts) change.drops.items m (put m p None) (each i d lt m) ∙ sym (redone_is m);
-      }
+  -- no path of the vault's own is dropped
+  not_dropped : (q : Text) → is_service root q ≡ true → is_among change.drops.items q ≡ false
+  not_dropped q own = elim (is_among change.drops.items q) as (λ b. is_among change.drops.items q ≡ b → is_among change.drops.items q ≡ false) [
+    | true ↦ λ is. (let (i, lt, at) = place_of change.drops.items q is in absurd (apart root q (get_or change.drops.items i q) own (plain_drop i q lt) (sym (at q))))
+    | false ↦ λ is. is
+  ] refl
+
+  -- files that differ in dropped paths only
+  pub drops_kept : (m n : Files) → IsSameBut change.drops.items m n → IsOfPlan root (plan_in change) m n
+  drops_kept m n but = record {
+    journal = but (journal_path root) (not_dropped (journal_path root) (service_journal root));
+    redone = redone_is n ∙ redone_same root (moves_of puts) change.drops.items m n each ∙ sym (redone_is m);
+  }
     where
-      each : (i : ℕ) (d : Text) → i < length change.drops.items → (m : Files) (q : Text) → is_service root q ≡ false → is_among change.drops.items q ≡ false
-          → brought (put m (get_or change.drops.items i d) None) (source_of (moves_of puts) q) (put m (get_or change.drops.items i d) None q) ≡ brought m (source_of (moves_of puts) q) (m q)
-      each i d lt m q plain kept =
-          let p = get_or change.drops.items i d in
-          let p_q : p ≢ q = λ e. false≢true (sym kept ∙ ap (is_among change.drops.items) (sym e) ∙ among_at change.drops.items i d lt) in
-          let here : put m p None q ≡ m q = put_apart m p q None p_q in
-          elim (find puts q) [
-            | inl f ↦ ap (λ s. brought (put m p None) s (put m p None q)) f.source ∙ here ∙ ap (λ s. brought m s (m q)) (sym f.source)
-            | inr f ↦
-                let s = f.put.staged in
-                let p_s : p ≢ s = λ e. apart root s p (found_is q f).staged (plain_drop i d lt) (sym e) in
-                ap (λ t. brought (put m p None) t (put m p None q)) f.source
-                ∙ ap (λ g. option_or g (put m p None q)) (put_apart m p s None p_s)
-                ∙ ap (λ g. option_or (m s) g) here
-                ∙ ap (λ t. brought m t (m q)) (sym f.source)
-          ]
+      each : (q : Text) → is_service root q ≡ false → is_among change.drops.items q ≡ false
+          → brought n (source_of (moves_of puts) q) (n q) ≡ brought m (source_of (moves_of puts) q) (m q)
+      each q plain kept = elim (find puts q) [
+        | inl f ↦ ap (λ s. brought n s (n q)) f.source ∙ but q kept ∙ ap (λ s. brought m s (m q)) (sym f.source)
+        | inr f ↦
+            let s = f.put.staged in
+            ap (λ t. brought n t (n q)) f.source
+            ∙ ap (λ g. option_or g (n q)) (but s (not_dropped s (found_is q f).staged))
+            ∙ ap (λ g. option_or (m s) g) (but q kept)
+            ∙ ap (λ t. brought m t (m q)) (sym f.source)
+      ]
 
   pub staged_more : (i : ℕ) (d : Put) → i < length puts → (before files : Files) → IsStaged change i before files → IsStaged change (i + 1) before (put files (get_or puts i d).staged (Some (get_or puts i d).bytes.items))
   staged_more i d lt before files so = record {

@@ -1,5 +1,5 @@
 -- What the parts of an opening come to.
-use Rattle.std.proofs.Common.{◌≡◌, inl, inr, ⊎_elim, ℕ, ◌<◌, true, false, ◌||◌, List, [], ◌∷◌, length, get_or, None, Some, refl, sym, ◌∙◌, ap, subst, bytes_eq, arith}
+use Rattle.std.proofs.Common.{◌≡◌, inl, inr, ⊎_elim, true, false, ◌||◌, List, [], ◌∷◌, length, None, Some, refl, sym, ◌∙◌, ap, subst, bytes_eq, arith}
 use Rattle.std.specs.Prelude.{Contains}
 use Rattle.std.proofs.lemmas.Bool.{cases_Bool, false≢true}
 use Rattle.std.proofs.Math.Path.{fun_ext}
@@ -8,33 +8,20 @@ use Rattle.disk_model.specs.Files.{Files, put, Drops}
 use Rattle.disk_model.specs.Disk.{View, IsSound, Rests, Steps, Syncs, Only, IsDurable}
 use Rattle.disk_model.specs.Runs.{Runs, Leaves}
 use Rattle.disk_model.specs.Listing.{LiesIn, IsListing}
-use Rattle.disk_model.proofs.FileLemmas.{cases_path, cases_file, same_path, other_path, put_here, put_apart}
+use Rattle.disk_model.proofs.FileLemmas.{cases_path, cases_file, same_path, other_path, put_here}
 use Rattle.disk_model.proofs.RunLemmas.{runs_step, runs_then, runs_weaken, leaves_runs, leaves_then, leaves_weaken}
 use Rattle.pending_journal.specs.Service.{is_service, without_service, journal_path, fresh_path, stage_dir}
 use Rattle.pending_journal.specs.Redo.{is_among, redone, RecoversTo, IsAlike, IsAtRest}
 use Rattle.pending_journal.specs.declared.change.Change.{Change}
 use Rattle.pending_journal.specs.Built.{IsBuilt}
 use Rattle.pending_journal.specs.Change.{plan_in}
-use Rattle.pending_journal.specs.Carrying.{IsUnseen, IsOfPlan, IsEither, IsRemoved, IsCarried}
-use Rattle.pending_journal.specs.Recovery.{IsOldOrAlike, IsSameOrAlike, IsUntouched, IsMended, IsCleared, IsSameBut}
+use Rattle.pending_journal.specs.Carrying.{IsUnseen, IsOfPlan, IsEither, IsRemoved, IsSameBut, IsCarried}
+use Rattle.pending_journal.specs.Recovery.{IsOldOrAlike, IsSameOrAlike, IsUntouched, IsMended, IsCleared}
 use Rattle.gopass_base.proofs.ListLemmas.{here, later, first_or}
 use Rattle.pending_journal.proofs.ServiceLemmas.{service_journal, service_fresh, fresh_apart, below_service, below_not_journal, service_only}
 use Rattle.pending_journal.proofs.RedoLemmas.{without_own, without_other, without_none, without-put, unseen_put, unseen_same, unseen_then, stands_none, stands_some, alike_some, alike_done, alike_by, redone_gone, IsLike}
-use Rattle.pending_journal.proofs.ChangeLemmas.{among_at, place_of}
+use Rattle.pending_journal.proofs.ChangeLemmas.{place_of}
 use Rattle.pending_journal.proofs.CommitLemmas.{settled}
-
--- ---- removing a list of paths
-pub but_same : (paths : List Text) (m : Files) → IsSameBut paths m m
-but_same paths m q other = refl
-
-pub but_then : (paths : List Text) (a b c : Files) → IsSameBut paths a b → IsSameBut paths b c → IsSameBut paths a c
-but_then paths a b c s t q other = t q other ∙ s q other
-
-module _ (paths : List Text) (i : ℕ) (p : Text) (is : p ≡ get_or paths i p) (lt : i < length paths) where
-  pub remove_runs : (start old new : View) → Runs (IsSameBut paths) start old → Steps (Drops p) old new → Runs (IsSameBut paths) start new
-  remove_runs start old new run step =
-      runs_then (IsSameBut paths) (but_same paths) (but_then paths) start old new run
-      (runs_step (IsSameBut paths) (but_same paths) (Drops p) old new (λ m n made q other. ap (λ (f : Files). f q) made ∙ put_apart m p q None (λ e. false≢true (sym other ∙ ap (is_among paths) (sym e ∙ is) ∙ among_at paths i p lt))) step)
 
 among_contains : (paths : List Text) (q : Text) → is_among paths q ≡ true → Contains paths q
 among_contains [] q is = absurd (false≢true is)

@@ -1,10 +1,10 @@
 -- What the parts of a commit come to.
-use Rattle.std.specs.Prelude.{◌≡◌, ◌≢◌, ◌⊎◌, ℕ, ◌<◌, List, length, get_or, None, Some}
+use Rattle.std.specs.Prelude.{◌≡◌, ◌≢◌, ◌⊎◌, ℕ, ◌<◌, false, List, length, get_or, None, Some}
 use Rattle.gopass_base.specs.Text.{Text}
 use Rattle.disk_model.specs.Files.{Files}
 use Rattle.pending_journal.specs.Service.{without_service, journal_path}
 use Rattle.pending_journal.specs.Journal.{JournalPlan}
-use Rattle.pending_journal.specs.Redo.{redone}
+use Rattle.pending_journal.specs.Redo.{redone, is_among}
 use Rattle.pending_journal.specs.declared.put.Put.{Put}
 use Rattle.pending_journal.specs.declared.change.Change.{Change}
 
@@ -17,6 +17,10 @@ pub record IsUnseen (root : Text) (m n : Files) : Type 0 where
 pub record IsOfPlan (root : Text) (plan : JournalPlan) (m n : Files) : Type 0 where
   pub journal : n (journal_path root) ≡ m (journal_path root)
   pub redone : redone root plan n ≡ redone root plan m
+
+-- only these paths may differ
+abbrev pub IsSameBut : List Text → Files → Files → Type 0
+IsSameBut paths m n = (q : Text) → is_among paths q ≡ false → n q ≡ m q
 
 -- one of the two
 abbrev pub IsEither : Files → Files → Files → Type 0

@@ -40,13 +40,13 @@ pub record IsSameChange (old new : Change) : Type 0 where
   pub drops : new.drops.items ≡ old.drops.items
 
 -- a path may be added where no step has it, it is none of the vault's own, and fewer than 16,400 steps are held. The
--- refusals stand in this order
+-- refusals stand in this order, and want of memory comes behind them
 abbrev pub MayAdd : (root : Text) → JournalPlan → Text → {T : Type 0} → Result T ChangeAddFault → Type 0
 MayAdd root plan path (Ok done) = (¬ Contains (paths_of plan) path) × (is_service root path ≡ false) × (length (paths_of plan) < 16400)
 MayAdd root plan path (Err TwoForOne) = Contains (paths_of plan) path
 MayAdd root plan path (Err Service) = (¬ Contains (paths_of plan) path) × (is_service root path ≡ true)
 MayAdd root plan path (Err Long) = (¬ Contains (paths_of plan) path) × (is_service root path ≡ false) × (16400 ≤ length (paths_of plan))
-MayAdd root plan path (Err NoMemory) = Unit {0}
+MayAdd root plan path (Err NoMemory) = (¬ Contains (paths_of plan) path) × (is_service root path ≡ false) × (length (paths_of plan) < 16400)
 
 -- a refusal as an answer
 abbrev pub as_result : Option ChangeAddFault → Result (Unit {0}) ChangeAddFault

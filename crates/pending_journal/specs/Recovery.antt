@@ -1,11 +1,11 @@
 -- What the parts of an opening come to.
-use Rattle.std.specs.Prelude.{◌≡◌, ◌≢◌, ◌⊎◌, true, false, List, None}
+use Rattle.std.specs.Prelude.{◌≡◌, ◌≢◌, ◌⊎◌, true, None}
 use Rattle.gopass_base.specs.Text.{Text}
 use Rattle.disk_model.specs.Files.{Files}
 use Rattle.disk_model.specs.Disk.{View, Only}
 use Rattle.disk_model.specs.Runs.{Leaves}
 use Rattle.pending_journal.specs.Service.{is_service, without_service, journal_path}
-use Rattle.pending_journal.specs.Redo.{RecoversTo, IsAlike, is_among}
+use Rattle.pending_journal.specs.Redo.{RecoversTo, IsAlike}
 
 -- an image of the disk, or files that stand for the same as its files
 abbrev pub IsOldOrAlike : Text → View → Files → Type 0
@@ -30,7 +30,3 @@ pub record IsMended (root : Text) (before : Files) (disk : View) : Type 0 where
 -- of the vault's own nothing is there but the journal
 abbrev pub IsCleared : Text → Files → Type 0
 IsCleared root files = (path : Text) → is_service root path ≡ true → path ≢ journal_path root → files path ≡ None
-
--- only these paths may differ
-abbrev pub IsSameBut : List Text → Files → Files → Type 0
-IsSameBut paths m n = (q : Text) → is_among paths q ≡ false → n q ≡ m q

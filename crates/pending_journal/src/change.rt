@@ -1,16 +1,13 @@
 //! A change of many files.
 
-ghost use Rattle.std.specs.Prelude.{◌≡◌, ◌<◌, ◌≤◌, ◌+◌, ◌-◌, ◌++◌, ◌∷◌, [], ◌↔◌, ℕ, length, take, drop, codes, Contains, IfOk, OnOk, OnErr, IsTrue};
-ghost use Rattle.mount_table.specs.Paths.{IsDirPath, IsFilePath, path_in};
-ghost use Rattle.pending_journal.specs.Service.{journal_path, fresh_path};
-ghost use Rattle.pending_journal.specs.Journal.{paths_of, stage_path, put_lines, drop_lines};
+ghost use Rattle.std.specs.Prelude.{◌≡◌, ◌<◌, ◌-◌};
 ghost use Rattle.pending_journal.specs.Built.{IsBuilt};
 ghost use Rattle.pending_journal.specs.declared.change.ChangeAddFault.TheVariants.{NoMemory as no_memory};
 
 use crate::put::Put;
 use gopass_base::NoMemory;
 use mount_table::{DirPath, FilePath};
-use std::alloc::{AllocError, AllocFailed};
+use std::alloc::AllocFailed;
 
 /// Why a step is not added to a change, in this order.
 #[derive(Clone, Copy, Debug, PartialEq, Eq)]
@@ -28,14 +25,6 @@ impl From<NoMemory> for ChangeAddFault {
     ghost from_gives = { λ _ e. e ≡ no_memory };
 
     fn from(_: NoMemory) -> Self {
-        ChangeAddFault::NoMemory
-    }
-}
-
-impl From<AllocError> for ChangeAddFault {
-    ghost from_gives = { λ _ e. e ≡ no_memory };
-
-    fn from(_: AllocError) -> Self {
         ChangeAddFault::NoMemory
     }
 }

@@ -33,7 +33,7 @@ fn with_steps(rt: &HostRuntime, steps: &[Step]) -> Result<Change, Fail> {
 }
 
 #[test]
-fn text_of_steps(rt: HostRuntime) -> Result<(), Fail> {
+fn a_change_has_the_text_of_its_steps(rt: HostRuntime) -> Result<(), Fail> {
     let cases: [(&[Step], &str); 5] = [
         (&[], "journal 1\nend\n"),
         (

@@ -1,13 +1,13 @@
 //! The steps of a commit.
 
-ghost use Rattle.std.specs.Prelude.{◌≡◌, ℕ, length, None, Some, OnOk, Err};
+ghost use Rattle.std.specs.Prelude.{◌≡◌, length, None, OnOk, Err};
 ghost use Rattle.gopass_base.specs.Faults.{HasCause};
 ghost use Rattle.disk_model.specs.Files.{put, moved};
 ghost use Rattle.disk_model.specs.Disk.{Only, IsDurable};
 ghost use Rattle.disk_model.specs.Runs.{Runs, Leaves};
 ghost use Rattle.pending_journal.specs.Redo.{IsAtRest, IsBeforeOrAfter};
 ghost use Rattle.pending_journal.specs.Change.{plan_in, changed};
-ghost use Rattle.pending_journal.specs.Carrying.{IsUnseen, IsOfPlan, IsEither, IsStaged, IsFetched, IsRemoved, IsReady, IsCarried};
+ghost use Rattle.pending_journal.specs.Carrying.{IsUnseen, IsOfPlan, IsEither, IsStaged, IsFetched, IsRemoved, IsSameBut, IsReady, IsCarried};
 
 use crate::change::Change;
 use disk_model::{Disk, DiskFault};
@@ -37,13 +37,13 @@ fn fetch<D: Disk>(disk: &mut D, change: &Change) -> Result<(), DiskFault>
     Ok(())
 }
 
-/// Removes the file at each dropped path.
-fn drop_all<D: Disk>(disk: &mut D, change: &Change) -> Result<(), DiskFault>
-    ensures runs { D.meaning.tells → Runs (IsOfPlan change.now.root (plan_in change.now)) (D.meaning.view disk.old) (D.meaning.view disk.new) }
-    ensures dropped { OnOk result (D.meaning.tells → IsRemoved change.now.drops.items (length change.now.drops.items) (D.meaning.view disk.old).files (D.meaning.view disk.new).files) }
+/// Removes the files at these paths.
+pub(crate) fn remove_all<D: Disk>(disk: &mut D, paths: &[FilePath]) -> Result<(), DiskFault>
+    ensures runs { D.meaning.tells → Runs (IsSameBut paths.now) (D.meaning.view disk.old) (D.meaning.view disk.new) }
+    ensures removed { OnOk result (D.meaning.tells → IsRemoved paths.now (length paths.now) (D.meaning.view disk.old).files (D.meaning.view disk.new).files) }
     ensures cause { HasCause (D.meaning.faults disk.old) (D.meaning.faults disk.new) (result ≡ Err DiskFault.Failed) }
 {
-    for path in &change.drops {
+    for path in paths {
         disk.remove(path)?;
     }
     Ok(())
@@ -80,7 +80,7 @@ pub(crate) fn settle<D: Disk>(disk: &mut D, change: &Change) -> Result<(), DiskF
     ensures cause { HasCause (D.meaning.faults disk.old) (D.meaning.faults disk.new) (result ≡ Err DiskFault.Failed) }
 {
     fetch(disk, change)?;
-    drop_all(disk, change)?;
+    remove_all(disk, &change.drops)?;
     disk.sync()
 }
 

@@ -1,6 +1,6 @@
 //! Lines of a journal's text.
 
-ghost use Rattle.std.specs.Prelude.{◌≡◌, ◌≤◌, ◌++◌, ◌∷◌, length, take, drop, IfOk, IsTrue, OnOk};
+ghost use Rattle.std.specs.Prelude.{◌≡◌, ◌≤◌, ◌++◌, ◌∷◌, length, take, drop, IfOk, IsTrue};
 ghost use Rattle.std.specs.Str.{is_utf8};
 ghost use Rattle.mount_table.specs.Paths.{IsFilePath};
 

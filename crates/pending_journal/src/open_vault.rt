@@ -1,6 +1,6 @@
 //! The opening of a vault.
 
-ghost use Rattle.std.specs.Prelude.{◌≡◌, ◌≤◌, IfOk, Err, Some};
+ghost use Rattle.std.specs.Prelude.{◌≡◌, ◌≤◌, Err};
 ghost use Rattle.gopass_base.specs.Faults.{HasCause};
 ghost use Rattle.disk_model.specs.Runs.{Leaves};
 ghost use Rattle.pending_journal.specs.Redo.{IsAtRest, RecoversTo};
@@ -35,6 +35,7 @@ impl<D: Disk> Vault<D> {
         ensures untouched { IfVaultRefused result (λ fault after. (n : _) → fault ≡ VaultFault.BadJournal n → D.meaning.tells → IsUntouched (D.meaning.view disk) (D.meaning.view after)) }
         ensures cause { IfVaultRefused result (λ fault after. HasCause (D.meaning.faults disk) (D.meaning.faults after) (fault ≡ VaultFault.Disk)) }
         ensures later { OnDisk result (λ after. D.meaning.faults disk ≤ D.meaning.faults after) }
+        ensures stays { IfVaultReady result (λ vault. D.meaning.faults vault.disk ≡ D.meaning.faults disk) }
     {
         let mut disk = disk;
         match recover(alloc, &mut disk, root) {

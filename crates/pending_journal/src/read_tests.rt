@@ -8,7 +8,7 @@ use std::alloc::{AllocError, Global};
 use std::test::*;
 
 #[test]
-fn first_bad_lines(rt: HostRuntime) -> Result<(), Fail> {
+fn the_first_bad_line_is_told(rt: HostRuntime) -> Result<(), Fail> {
     let root = DirPath::read(rt.alloc(), "root")?;
     for (text, line) in [
         (b"".as_slice(), 1),
@@ -59,7 +59,7 @@ fn steps_of(alloc: Global, change: &Change) -> Result<String, AllocError> {
 }
 
 #[test]
-fn steps_that_are_read(rt: HostRuntime) -> Result<(), Fail> {
+fn a_journal_is_read_as_its_steps(rt: HostRuntime) -> Result<(), Fail> {
     let root = DirPath::read(rt.alloc(), "root")?;
     for (text, steps) in [
         ("journal 1\nend\n", ""),

@@ -1,22 +1,21 @@
 //! What a crash left is made whole.
 
-ghost use Rattle.std.specs.Prelude.{◌≡◌, ◌≢◌, ℕ, length, None, Some, MatchOption, IfOk, IfErr, OnOk, Err};
+ghost use Rattle.std.specs.Prelude.{◌≡◌, None, Some, MatchOption, IfOk, IfErr, OnOk, Err};
 ghost use Rattle.gopass_base.specs.Faults.{HasCause};
 ghost use Rattle.disk_model.specs.Disk.{Rests, Only};
 ghost use Rattle.disk_model.specs.Runs.{Runs, Leaves};
-ghost use Rattle.pending_journal.specs.Service.{journal_path, fresh_path, stage_dir};
 ghost use Rattle.pending_journal.specs.Redo.{RecoversTo, IsAlike, IsAtRest};
-ghost use Rattle.pending_journal.specs.Carrying.{IsUnseen, IsRemoved};
-ghost use Rattle.pending_journal.specs.Recovery.{IsOldOrAlike, IsSameOrAlike, IsUntouched, IsMended, IsCleared, IsSameBut};
-ghost use Rattle.pending_journal.specs.Faults.{HasBadJournal, RefusesVault};
+ghost use Rattle.pending_journal.specs.Carrying.{IsUnseen};
+ghost use Rattle.pending_journal.specs.Recovery.{IsOldOrAlike, IsSameOrAlike, IsUntouched, IsMended, IsCleared};
+ghost use Rattle.pending_journal.specs.Faults.{RefusesVault};
 
 use crate::change::Change;
-use crate::commit::{finish, settle};
+use crate::commit::{finish, remove_all, settle};
 use crate::fault::VaultFault;
 use crate::own::{OwnPaths, own_paths};
 use crate::read::read_journal;
 use disk_model::{Disk, DiskFault, Got, Listed};
-use mount_table::{DirPath, FilePath};
+use mount_table::DirPath;
 use std::alloc::Global;
 
 /// How many bytes a journal has at most.
@@ -65,18 +64,6 @@ fn mend<D: Disk>(alloc: Global, disk: &mut D, own: &OwnPaths) -> Result<(), Vaul
         None => Ok(()),
         Some(change) => Ok(redo(disk, &change)?),
     }
-}
-
-/// Removes the files at these paths.
-fn remove_all<D: Disk>(disk: &mut D, paths: &[FilePath]) -> Result<(), DiskFault>
-    ensures runs { D.meaning.tells → Runs (IsSameBut paths.now) (D.meaning.view disk.old) (D.meaning.view disk.new) }
-    ensures removed { OnOk result (D.meaning.tells → IsRemoved paths.now (length paths.now) (D.meaning.view disk.old).files (D.meaning.view disk.new).files) }
-    ensures cause { HasCause (D.meaning.faults disk.old) (D.meaning.faults disk.new) (result ≡ Err DiskFault.Failed) }
-{
-    for path in paths {
-        disk.remove(path)?;
-    }
-    Ok(())
 }
 
 /// Takes the vault's own files away but the journal, and syncs.

@@ -1,8 +1,8 @@
 //! A disk whose changes are whole.
 
-ghost use Rattle.std.specs.Prelude.{◌≡◌, ◌≤◌, ◌↔◌, ℕ, is_err, IsTrue, IsFalse, OnOk, OnErr, Err};
+ghost use Rattle.std.specs.Prelude.{◌≡◌, ◌↔◌, is_err, IsTrue, IsFalse, OnOk, OnErr, Err};
 ghost use Rattle.gopass_base.specs.Faults.{HasCause, counted};
-ghost use Rattle.disk_model.specs.Disk.{Rests, IsDurable};
+ghost use Rattle.disk_model.specs.Disk.{IsDurable};
 ghost use Rattle.disk_model.specs.Runs.{Leaves};
 ghost use Rattle.pending_journal.specs.Redo.{IsAtRest, IsBeforeOrAfter};
 ghost use Rattle.pending_journal.specs.Change.{changed};

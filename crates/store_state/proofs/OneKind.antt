@@ -11,7 +11,7 @@ use Rattle.mount_table.proofs.PartLemmas.{parts_fill}
 use Rattle.mount_table.proofs.JoinLemmas.{parts_join, with_ending, parts_with_ending}
 use Rattle.store_state.specs.declared.kind.Kind.{Kind}
 use Rattle.store_state.specs.declared.kind.Kind.TheVariants.{Secret, Rule, Template, Shadowed, Hidden, Strange}
-use Rattle.store_state.specs.Places.{HasHidden, IsFolderFileAt, IsKind, IsRuleOrTemplate, IsSecretAt, folder_under, in_folder, rule_file, template_file, name_under}
+use Rattle.store_state.specs.Places.{HasHidden, IsFolderFileAt, IsKind, IsRuleOrTemplate, IsSecretAt, folder_under, in_folder, rule_file, template_file}
 use Rattle.store_state.proofs.KindLemmas.{in_folder_once}
 
 -- ---- texts with other last bytes differ
@@ -53,9 +53,9 @@ secret_no_file alias rest name folder h (inl rule) = no_rule h.stem rule.below (
 secret_no_file alias rest name folder h (inr template) = no_template h.stem template.below (sym h.file ∙ template.there)
 
 pub one_secret : (alias rest a b : Text) → IsSecretAt alias rest a → IsSecretAt alias rest b → a ≡ b
-one_secret alias rest a b h k = h.named ∙ (ap (name_under alias) (append_cancel_right h.stem k.stem (codes ".gpg") (sym h.file ∙ k.file)) ∙ sym k.named)
+one_secret alias rest a b h k = h.named ∙ (ap (in_folder alias) (append_cancel_right h.stem k.stem (codes ".gpg") (sym h.file ∙ k.file)) ∙ sym k.named)
 
-parts_under : (alias stem : Text) → All IsNamePart (parts (name_under alias stem)) → All IsNamePart (parts stem)
+parts_under : (alias stem : Text) → All IsNamePart (parts (in_folder alias stem)) → All IsNamePart (parts stem)
 parts_under [] stem h = h
 parts_under (b ∷ alias) stem h = later (parts (b ∷ alias)) (parts stem) (subst (All IsNamePart) (parts_join (b ∷ alias) stem) h)
   where

@@ -14,17 +14,17 @@ use Rattle.mount_table.proofs.RestLemmas.{start_other}
 use Rattle.mount_table.proofs.MountLemmas.{one_row}
 use Rattle.mount_table.proofs.MountOfLemmas.{mount_computed}
 use Rattle.disk_model.specs.Listing.{LiesIn}
-use Rattle.store_state.specs.Places.{IsSecretAt, dir_of, rest_of, secret_path, name_under}
+use Rattle.store_state.specs.Places.{IsSecretAt, dir_of, rest_of, secret_path, in_folder}
 use Rattle.store_state.proofs.OneKind.{secret_shown}
 
-behind_under : (alias stem : Text) → Holds alias (name_under alias stem) → drop (rest_start alias (name_under alias stem)) (name_under alias stem) ≡ stem
+behind_under : (alias stem : Text) → Holds alias (in_folder alias stem) → drop (rest_start alias (in_folder alias stem)) (in_folder alias stem) ≡ stem
 behind_under [] stem holds = refl
 behind_under (b ∷ alias) stem holds =
     ap (λ n. drop n (path_in (b ∷ alias) stem)) (start_other (b ∷ alias) (path_in (b ∷ alias) stem) (λ e. absurd (omega (arith, e))) holds)
     ∙ (ap (drop (length (b ∷ alias) + 1)) (sym (append_assoc (b ∷ alias) (47 ∷ []) stem))
     ∙ drop_at ((b ∷ alias) ++ 47 ∷ []) stem (length (b ∷ alias) + 1) (omega (arith, length-append (b ∷ alias) (47 ∷ []))))
 
-under_behind : (alias name : Text) → Holds alias name → name_under alias (drop (rest_start alias name) name) ≡ name
+under_behind : (alias name : Text) → Holds alias name → in_folder alias (drop (rest_start alias name) name) ≡ name
 under_behind [] name holds = refl
 under_behind (b ∷ alias) name holds =
     let (more, whole) = bytes_by_holds b alias name holds in

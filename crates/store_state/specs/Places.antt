@@ -26,20 +26,16 @@ secret_path mounts name = file_of (dir_of mounts name) (rest_of mounts name)
 
 -- ---- what lies below a mount
 
--- the full name of a secret, by the rest of it below a mount
-abbrev pub name_under : (alias rest : Text) → Text
-name_under [] rest = rest
-name_under (b ∷ alias) rest = path_in (b ∷ alias) rest
+-- what has this rest in a folder: the secret of a mount, by its alias; the file of a folder. The root folder, whose text
+-- is empty, adds nothing
+abbrev pub in_folder : (folder rest : Text) → Text
+in_folder [] rest = rest
+in_folder (b ∷ folder) rest = path_in (b ∷ folder) rest
 
--- and of a folder, where the mount's own folder has no rest
+-- the full name of a folder, by the rest of it below a mount; the mount's own folder has none
 abbrev pub folder_under : (alias rest : Text) → Text
 folder_under alias [] = alias
-folder_under alias (b ∷ rest) = name_under alias (b ∷ rest)
-
--- a file of a folder, by the folder's rest below a mount; the mount's own folder has none
-abbrev pub in_folder : (rest file : Text) → Text
-in_folder [] file = file
-in_folder (b ∷ rest) file = path_in (b ∷ rest) file
+folder_under alias (b ∷ rest) = in_folder alias (b ∷ rest)
 
 -- pass(1)'s file of recipients, and gopass's template
 abbrev pub rule_file : Text
@@ -52,7 +48,7 @@ template_file = codes ".pass-template"
 pub record IsSecretAt (alias rest name : Text) : Type 0 where
   pub stem : Text
   pub file : rest ≡ stem ++ codes ".gpg"
-  pub named : name ≡ name_under alias stem
+  pub named : name ≡ in_folder alias stem
   pub good : IsName name
 
 -- and this file of the folder

@@ -7,7 +7,7 @@ use disk_model::DiskFault;
 use gopass_base::NoMemory;
 use mount_table::FilePath;
 use path_rules::RulesFault;
-use std::alloc::{AllocError, AllocFailed};
+use std::alloc::AllocFailed;
 
 /// A number of the store that has a greatest value.
 #[derive(Clone, Copy, Debug, PartialEq, Eq)]
@@ -47,14 +47,6 @@ impl From<NoMemory> for StoreFault {
     ghost from_gives = { λ _ e. e ≡ no_memory };
 
     fn from(_: NoMemory) -> Self {
-        StoreFault::NoMemory
-    }
-}
-
-impl From<AllocError> for StoreFault {
-    ghost from_gives = { λ _ e. e ≡ no_memory };
-
-    fn from(_: AllocError) -> Self {
         StoreFault::NoMemory
     }
 }

@@ -2,13 +2,13 @@
 
 ghost use Rattle.std.specs.Prelude.{◌≡◌, ℕ, IfOk, string_bytes};
 ghost use Rattle.mount_table.specs.Mounts.{IsMountOfFolder};
-ghost use Rattle.mount_table.specs.Paths.{IsDirPath, IsFilePath, path_in};
+ghost use Rattle.mount_table.specs.Paths.{path_in};
 ghost use Rattle.mount_table.specs.Prefixes.{IsPrefix, folder_parts};
 ghost use Rattle.store_state.specs.Places.{IsFolderFile, folder_path, folder_rest, in_folder};
 
 use disk_model::rest_in;
 use gopass_base::NoMemory;
-use mount_table::{DirPath, FilePath, Folder, Mounts, PathFault, Row};
+use mount_table::{FilePath, Folder, Mounts, Row};
 use std::alloc::{AllocError, Global};
 
 /// What stands in the folder behind the alias of its mount and a slash. The folder of the alias
@@ -26,29 +26,17 @@ fn rest_below<'a>(alias: &str, folder: &'a str) -> &'a str
     }
 }
 
-/// A file of a folder, by the folder's rest below a mount.
-fn in_folder(alloc: Global, rest: &str, file: &str) -> Result<String, AllocError>
-    ensures { IfOk result (λ text. string_bytes text ≡ in_folder rest.now file.now) }
+/// What has this rest in a folder, of which the root folder adds nothing.
+pub(crate) fn in_folder(alloc: Global, folder: &str, rest: &str) -> Result<String, AllocError>
+    ensures { IfOk result (λ text. string_bytes text ≡ in_folder folder.now rest.now) }
 {
-    if rest.is_empty() {
-        return String::from_str(alloc, file);
+    if folder.is_empty() {
+        return String::from_str(alloc, rest);
     }
-    let mut text = String::from_str(alloc, rest)?;
+    let mut text = String::from_str(alloc, folder)?;
     text.push('/')?;
-    text.push_str(file)?;
+    text.push_str(rest)?;
     Ok(text)
-}
-
-/// The path of what lies in the directory, where it is known to be the path of a file.
-fn join_good(alloc: Global, dir: &DirPath, rest: &str) -> Result<FilePath, NoMemory>
-    requires { IsDirPath dir.now → IsFilePath (path_in dir.now rest.now) }
-    ensures { IfOk result (λ path. path ≡ path_in dir.now rest.now) }
-{
-    match dir.join(alloc, rest) {
-        Ok(path) => Ok(path),
-        Err(PathFault::NoMemory) => Err(NoMemory),
-        Err(PathFault::Bad) => unreachable!(),
-    }
 }
 
 /// The path of the folder's file of this name below the mount of this row.
@@ -58,7 +46,7 @@ fn file_below(alloc: Global, row: &Row, folder: &Folder, file: &str) -> Result<F
     ensures { IfOk result (λ path. path ≡ path_in row.now.dir (in_folder (folder_rest row.now.alias folder.now) file.now)) }
 {
     let rest = rest_below(row.alias.text(), folder.text());
-    join_good(alloc, &row.dir, &in_folder(alloc, rest, file)?)
+    row.dir.file_at(alloc, &in_folder(alloc, rest, file)?)
 }
 
 /// The path of the folder's file of this name, that of its rule or its template: the directory of

@@ -5,8 +5,9 @@ ghost use Rattle.gopass_base.specs.Text.{Text};
 ghost use Rattle.mount_table.specs.Names.{parts, IsHidden, IsName};
 ghost use Rattle.mount_table.specs.Folders.{IsFolder};
 ghost use Rattle.mount_table.specs.Mounts.{row_at, root_of, IsTable, IsMountOf, IsMountOfFolder};
-ghost use Rattle.store_state.specs.Places.{HasHidden, IsFolderFileAt, IsKind, IsRuleOrTemplate, IsSecretAt, folder_under, in_folder, rule_file, template_file, name_under};
+ghost use Rattle.store_state.specs.Places.{HasHidden, IsFolderFileAt, IsKind, IsRuleOrTemplate, folder_under, in_folder, rule_file, template_file};
 
+use crate::folder_file::in_folder;
 use gopass_base::NoMemory;
 use mount_table::{Folder, Mounts, Name, NameFault};
 use std::alloc::{AllocError, Global};
@@ -28,19 +29,6 @@ pub enum Kind {
     Strange,
 }
 
-/// The full name of a secret, by the rest of it below a mount.
-fn under(alloc: Global, alias: &str, rest: &str) -> Result<String, AllocError>
-    ensures { IfOk result (λ text. string_bytes text ≡ name_under alias.now rest.now) }
-{
-    if alias.is_empty() {
-        return String::from_str(alloc, rest);
-    }
-    let mut text = String::from_str(alloc, alias)?;
-    text.push('/')?;
-    text.push_str(rest)?;
-    Ok(text)
-}
-
 /// The full name of a folder, by the rest of it below a mount.
 fn full(alloc: Global, alias: &str, rest: &str) -> Result<String, AllocError>
     ensures { IfOk result (λ text. string_bytes text ≡ folder_under alias.now rest.now) }
@@ -48,14 +36,14 @@ fn full(alloc: Global, alias: &str, rest: &str) -> Result<String, AllocError>
     if rest.is_empty() {
         return String::from_str(alloc, alias);
     }
-    under(alloc, alias, rest)
+    in_folder(alloc, alias, rest)
 }
 
 /// The name of the secret that would lie at the stem below the mount, where it is a name.
 fn name_at(alloc: Global, alias: &str, stem: &str) -> Result<Option<Name>, NoMemory>
-    ensures { IfOk result (λ found. MatchOption found (¬ IsName (name_under alias.now stem.now)) (λ name. (name ≡ name_under alias.now stem.now) × IsName name)) }
+    ensures { IfOk result (λ found. MatchOption found (¬ IsName (in_folder alias.now stem.now)) (λ name. (name ≡ in_folder alias.now stem.now) × IsName name)) }
 {
-    let text = under(alloc, alias, stem)?;
+    let text = in_folder(alloc, alias, stem)?;
     match Name::read(alloc, &text) {
         Ok(name) => Ok(Some(name)),
         Err(NameFault::Bad(_)) => Ok(None),

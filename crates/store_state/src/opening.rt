@@ -6,7 +6,6 @@ ghost use Rattle.disk_model.specs.Disk.{Rests};
 ghost use Rattle.pending_journal.specs.Opened.{IsSameVault};
 ghost use Rattle.store_state.specs.Tree.{IsOwnOf};
 ghost use Rattle.store_state.specs.State.{mounts_path, pending_path};
-ghost use Rattle.gopass_base.specs.Order.{IsSetOf};
 ghost use Rattle.store_state.specs.Order.{IsOrdered};
 ghost use Rattle.store_state.specs.Opening.{OpensStore, TellsMounts, TellsPending};
 
@@ -15,7 +14,8 @@ use crate::rule_files::read_rules;
 use crate::seen::{Seen, survey};
 use crate::tree::Own;
 use disk_model::{Disk, Got};
-use mount_table::{DirPath, FilePath, Folder, Mounts, MountsFault, Name};
+use gopass_base::in_order;
+use mount_table::{DirPath, FilePath, Mounts, MountsFault};
 use path_rules::{MOST_RULES, Rules};
 use pending_journal::Vault;
 use std::alloc::Global;
@@ -102,43 +102,16 @@ pub struct Found {
 }
 
 /// The lists in rising order, each item once.
-fn in_order(seen: Seen) -> Seen
+fn all_in_order(seen: Seen) -> Seen
     ensures { IsOrdered seen result }
 {
     Seen {
-        names: names_in_order(seen.names),
-        rules: folders_in_order(seen.rules),
-        templates: folders_in_order(seen.templates),
-        strange: paths_in_order(seen.strange),
-        shadowed: paths_in_order(seen.shadowed),
+        names: in_order(seen.names),
+        rules: in_order(seen.rules),
+        templates: in_order(seen.templates),
+        strange: in_order(seen.strange),
+        shadowed: in_order(seen.shadowed),
     }
-}
-
-fn names_in_order(names: Vec<Name>) -> Vec<Name>
-    ensures { IsSetOf result.items names.items }
-{
-    let mut names = names;
-    names.sort_unstable();
-    names.dedup();
-    names
-}
-
-fn folders_in_order(folders: Vec<Folder>) -> Vec<Folder>
-    ensures { IsSetOf result.items folders.items }
-{
-    let mut folders = folders;
-    folders.sort_unstable();
-    folders.dedup();
-    folders
-}
-
-fn paths_in_order(paths: Vec<FilePath>) -> Vec<FilePath>
-    ensures { IsSetOf result.items paths.items }
-{
-    let mut paths = paths;
-    paths.sort_unstable();
-    paths.dedup();
-    paths
 }
 
 /// Reads the mounts, looks for a pending file, lists all mounts, and reads the rules.
@@ -158,7 +131,7 @@ fn survey_all<D: Disk>(
     let mounts = read_mounts(alloc, vault, root, own)?;
     find_no_pending(alloc, vault, own)?;
     let (seen, counts) = survey(alloc, vault, own, &mounts)?;
-    let seen = in_order(seen);
+    let seen = all_in_order(seen);
     if seen.rules.len() > MOST_RULES {
         return Err(StoreFault::Full(Limit::Rules));
     }

@@ -202,7 +202,7 @@ const TABLE: File = (
 );
 
 #[test]
-fn secrets_and_folders_of_one_name(rt: HostRuntime) -> Result<(), Fail> {
+fn secrets_and_folders_of_one_name_are_found_as_defined(rt: HostRuntime) -> Result<(), Fail> {
     let (ours, wanted) = both(
         &rt,
         ROOT,
@@ -225,7 +225,7 @@ fn secrets_and_folders_of_one_name(rt: HostRuntime) -> Result<(), Fail> {
 }
 
 #[test]
-fn names_that_do_not_read(rt: HostRuntime) -> Result<(), Fail> {
+fn files_whose_names_do_not_read_are_found_as_defined(rt: HostRuntime) -> Result<(), Fail> {
     let (ours, wanted) = both(
         &rt,
         ROOT,
@@ -250,7 +250,7 @@ fn names_that_do_not_read(rt: HostRuntime) -> Result<(), Fail> {
 }
 
 #[test]
-fn mounts_in_mounts(rt: HostRuntime) -> Result<(), Fail> {
+fn trees_with_mounts_in_mounts_are_found_as_defined(rt: HostRuntime) -> Result<(), Fail> {
     let (ours, wanted) = both(
         &rt,
         THREE,

@@ -1,6 +1,6 @@
 //! The rules of a store, which the files of its folders tell.
 
-ghost use Rattle.std.specs.Prelude.{◌≡◌, ◌≢◌, ◌<◌, ◌≤◌, ◌+◌, length, OnOk, Err};
+ghost use Rattle.std.specs.Prelude.{◌≡◌, ◌<◌, ◌≤◌, ◌+◌, length, OnOk, Err};
 ghost use Rattle.std.specs.FinMap as map;
 ghost use Rattle.gopass_base.specs.Faults.{HasCause};
 ghost use Rattle.disk_model.specs.Disk.{Rests};

@@ -1,7 +1,6 @@
 //! What is found below the mounts of a store.
 
-ghost use Rattle.std.specs.Prelude.{◌≡◌, ◌<◌, ◌≤◌, ℕ, [], length, OnOk, Err};
-ghost use Rattle.gopass_base.specs.Text.{Text};
+ghost use Rattle.std.specs.Prelude.{◌≡◌, ◌<◌, [], length, OnOk, Err};
 ghost use Rattle.gopass_base.specs.Faults.{HasCause};
 ghost use Rattle.mount_table.specs.Mounts.{row_at};
 ghost use Rattle.disk_model.specs.Disk.{Rests};

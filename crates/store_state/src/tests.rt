@@ -75,7 +75,7 @@ pub(crate) fn paths(rt: &HostRuntime, paths: &[FilePath]) -> Result<String, Fail
 }
 
 #[test]
-fn files_of_folders(rt: HostRuntime) -> Result<(), Fail> {
+fn folders_have_their_rules_and_templates(rt: HostRuntime) -> Result<(), Fail> {
     let root = DirPath::read(rt.alloc(), "root")?;
     let mounts = Mounts::read(rt.alloc(), b"\troot\tplain\nwork\tw\tplain\n", &root)?;
     for (text, rule, template) in [
@@ -142,7 +142,7 @@ fn many(rt: &HostRuntime, count: usize, ending: &str) -> Result<MemDisk, Fail> {
 }
 
 #[test]
-fn secrets_over_the_limit(rt: HostRuntime) -> Result<(), Fail> {
+fn secrets_over_the_limit_refuse_the_opening(rt: HostRuntime) -> Result<(), Fail> {
     assert_eq!(rt; fault(&rt, many(&rt, 8192, ".gpg")?)?.as_str(), "none");
     assert_eq!(rt;
         fault(&rt, many(&rt, 8193, ".gpg")?)?.as_str(),
@@ -152,7 +152,7 @@ fn secrets_over_the_limit(rt: HostRuntime) -> Result<(), Fail> {
 }
 
 #[test]
-fn files_over_the_limit(rt: HostRuntime) -> Result<(), Fail> {
+fn files_over_the_limit_refuse_the_opening(rt: HostRuntime) -> Result<(), Fail> {
     assert_eq!(rt; fault(&rt, many(&rt, 40_001, "")?)?.as_str(), "Full(Files)");
     Ok(())
 }

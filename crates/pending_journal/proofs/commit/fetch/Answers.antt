@@ -1,4 +1,4 @@
-use Rattle.std.proofs.Common.{◌≡◌, ◌<◌, List, length, get_or, ◌∙◌, ap, arith}
+use Rattle.std.proofs.Common.{rules, ◌≡◌, ◌<◌, List, length, get_or, ◌∙◌, ap, arith}
 use Rattle.pending_journal.specs.declared.put.Put.{Put}
 use Rattle.pending_journal.proofs.TurnLemmas.{fetch_runs, fetch_files}
 use Rattle.pending_journal.proofs.commit.fetch.Goals as goal
@@ -22,5 +22,5 @@ loop-put-preserved g c =
     record {
       runs = λ told. fetch_runs c.args.change.now.root c.args.change.now c.args.change.now.built i p is lt _ _ _ (c.loop-put.invariant.runs told) (c.rename.ensures.steps told);
       fetched = λ told. fetch_files c.args.change.now.root c.args.change.now c.args.change.now.built i p is lt _ _ _ (c.loop-put.invariant.fetched told) (c.in_ok-rename.ensures.made told).files;
-      faults = omega (arith, c.loop-put.invariant.faults, c.rename.ensures.cause.later);
+      faults = search rules;
     }

@@ -1,4 +1,4 @@
-use Rattle.std.proofs.Common.{◌≤◌}
+use Rattle.std.proofs.Common.{◌≡◌}
 use Rattle.pending_journal.specs.Carrying.{IsOfPlan}
 use Rattle.pending_journal.specs.Carrying.{IsFetched}
 use Rattle.pending_journal.specs.Change.{plan_in}
@@ -11,5 +11,5 @@ invariant-loop-put g l =
     record {
       runs : g.D.Disk.meaning.tells → Runs (IsOfPlan l.change.root (plan_in l.change)) (view l.fn.disk) (view l.disk);
       fetched : g.D.Disk.meaning.tells → IsFetched l.change l.put-index (view l.fn.disk).files (view l.disk).files;
-      faults : g.D.Disk.meaning.faults l.fn.disk ≤ g.D.Disk.meaning.faults l.disk;
+      faults : g.D.Disk.meaning.faults l.disk ≡ g.D.Disk.meaning.faults l.fn.disk;
     }

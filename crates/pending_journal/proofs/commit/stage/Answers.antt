@@ -1,4 +1,4 @@
-use Rattle.std.proofs.Common.{◌≡◌, ◌<◌, List, length, get_or, Some, ◌∙◌, ap, arith}
+use Rattle.std.proofs.Common.{rules, ◌≡◌, ◌<◌, List, length, get_or, Some, ◌∙◌, ap, arith}
 use Rattle.disk_model.specs.Files.{put}
 use Rattle.pending_journal.specs.declared.put.Put.{Put}
 use Rattle.pending_journal.proofs.TurnLemmas.{stage_runs, stage_files}
@@ -24,5 +24,5 @@ loop-put-preserved g c =
       runs = λ told. stage_runs c.args.change.now.root c.args.change.now c.args.change.now.built i p is lt _ _ _ (c.loop-put.invariant.runs told) (c.write.ensures.steps told);
       staged = λ told. stage_files c.args.change.now.root c.args.change.now c.args.change.now.built i p is lt _ _ _ (c.loop-put.invariant.staged told)
           ((c.in_ok-write.ensures.made told).files ∙ ap (λ b. put (g.D.Disk.meaning.view c.loop-put.disk).files p.staged (Some b)) c.deref.ensures.value);
-      faults = omega (arith, c.loop-put.invariant.faults, c.write.ensures.cause.later);
+      faults = search rules;
     }

@@ -1,4 +1,4 @@
-use Rattle.std.proofs.Common.{◌≤◌}
+use Rattle.std.proofs.Common.{◌≡◌}
 use Rattle.pending_journal.specs.Carrying.{IsUnseen}
 use Rattle.pending_journal.specs.Carrying.{IsStaged}
 use Rattle.disk_model.specs.Runs.{Runs}
@@ -10,5 +10,5 @@ invariant-loop-put g l =
     record {
       runs : g.D.Disk.meaning.tells → Runs (IsUnseen l.change.root) (view l.fn.disk) (view l.disk);
       staged : g.D.Disk.meaning.tells → IsStaged l.change l.put-index (view l.fn.disk).files (view l.disk).files;
-      faults : g.D.Disk.meaning.faults l.fn.disk ≤ g.D.Disk.meaning.faults l.disk;
+      faults : g.D.Disk.meaning.faults l.disk ≡ g.D.Disk.meaning.faults l.fn.disk;
     }

@@ -6,8 +6,8 @@ use Rattle.disk_model.specs.Listing.{Lists, IsListing}
 use Rattle.disk_model.specs.declared.disk.Listed.{Listed}
 use Rattle.disk_model.proofs.RunLemmas.{runs_rest, runs_sync, runs_then}
 use Rattle.pending_journal.specs.Service.{fresh_path}
-use Rattle.pending_journal.specs.Carrying.{IsUnseen, IsRemoved}
-use Rattle.pending_journal.specs.Recovery.{IsSameBut, IsCleared}
+use Rattle.pending_journal.specs.Carrying.{IsUnseen, IsRemoved, IsSameBut}
+use Rattle.pending_journal.specs.Recovery.{IsCleared}
 use Rattle.pending_journal.proofs.RedoLemmas.{unseen_same, unseen_then}
 use Rattle.pending_journal.proofs.CommitLemmas.{on_ok}
 use Rattle.pending_journal.proofs.RecoverLemmas.{clear_fresh, clear_all, cleared}

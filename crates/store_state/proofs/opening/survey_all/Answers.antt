@@ -19,10 +19,10 @@ returns-then-len-gt-MOST_RULES-clause-opens g c told =
     let mounts = c.in_ok-mounts.mounts in
     let one = (c.in_ok-mounts.ensures.rests told).files in
     let two = (c.in_ok-find_no_pending.ensures.rests told).files in
-    let many : 512 < length c.in_order-seen.result.rules.items = grind (arith, nat_tests) in
-    let all = surveyed start.root files c.args.root.now first.root (disk.view first.disk).files second.root (disk.view second.disk).files mounts c.in_ok-seen.seen c.in_order-seen.result c.in_ok-seen.counts.items
-    c.requires.root (c.in_ok-mounts.ensures.mounts told) c.in_ok-mounts.ensures.kept.root one (c.in_ok-find_no_pending.ensures.pending told) (c.in_ok-find_no_pending.ensures.kept.root ∙ c.in_ok-mounts.ensures.kept.root) (two ∙ one) (c.in_ok-seen.ensures.lists told) c.in_order-seen.ensures in
-    (mounts, c.in_order-seen.result, all, many)
+    let many : 512 < length c.all_in_order-seen.result.rules.items = grind (arith, nat_tests) in
+    let all = surveyed start.root files c.args.root.now first.root (disk.view first.disk).files second.root (disk.view second.disk).files mounts c.in_ok-seen.seen c.all_in_order-seen.result c.in_ok-seen.counts.items
+    c.requires.root (c.in_ok-mounts.ensures.mounts told) c.in_ok-mounts.ensures.kept.root one (c.in_ok-find_no_pending.ensures.pending told) (c.in_ok-find_no_pending.ensures.kept.root ∙ c.in_ok-mounts.ensures.kept.root) (two ∙ one) (c.in_ok-seen.ensures.lists told) c.all_in_order-seen.ensures in
+    (mounts, c.all_in_order-seen.result, all, many)
 
 pub returns-then-len-gt-MOST_SECRETS-clause-opens : goal.returns-then-len-gt-MOST_SECRETS-clause-opens
 returns-then-len-gt-MOST_SECRETS-clause-opens g c told =
@@ -34,11 +34,11 @@ returns-then-len-gt-MOST_SECRETS-clause-opens g c told =
     let mounts = c.in_ok-mounts.mounts in
     let one = (c.in_ok-mounts.ensures.rests told).files in
     let two = (c.in_ok-find_no_pending.ensures.rests told).files in
-    let few : length c.in_order-seen.result.rules.items ≤ 512 = grind (arith, nat_tests) in
-    let many : 8192 < length c.in_order-seen.result.names.items = grind (arith, nat_tests) in
-    let all = surveyed start.root files c.args.root.now first.root (disk.view first.disk).files second.root (disk.view second.disk).files mounts c.in_ok-seen.seen c.in_order-seen.result c.in_ok-seen.counts.items
-    c.requires.root (c.in_ok-mounts.ensures.mounts told) c.in_ok-mounts.ensures.kept.root one (c.in_ok-find_no_pending.ensures.pending told) (c.in_ok-find_no_pending.ensures.kept.root ∙ c.in_ok-mounts.ensures.kept.root) (two ∙ one) (c.in_ok-seen.ensures.lists told) c.in_order-seen.ensures in
-    (mounts, c.in_order-seen.result, all, few, many)
+    let few : length c.all_in_order-seen.result.rules.items ≤ 512 = grind (arith, nat_tests) in
+    let many : 8192 < length c.all_in_order-seen.result.names.items = grind (arith, nat_tests) in
+    let all = surveyed start.root files c.args.root.now first.root (disk.view first.disk).files second.root (disk.view second.disk).files mounts c.in_ok-seen.seen c.all_in_order-seen.result c.in_ok-seen.counts.items
+    c.requires.root (c.in_ok-mounts.ensures.mounts told) c.in_ok-mounts.ensures.kept.root one (c.in_ok-find_no_pending.ensures.pending told) (c.in_ok-find_no_pending.ensures.kept.root ∙ c.in_ok-mounts.ensures.kept.root) (two ∙ one) (c.in_ok-seen.ensures.lists told) c.all_in_order-seen.ensures in
+    (mounts, c.all_in_order-seen.result, all, few, many)
 
 pub returns-in_err-rules-clause-opens : goal.returns-in_err-rules-clause-opens
 returns-in_err-rules-clause-opens g c told =
@@ -49,12 +49,12 @@ returns-in_err-rules-clause-opens g c told =
     let second = c.find_no_pending.new.vault in
     let third = c.survey.new.vault in
     let mounts = c.in_ok-mounts.mounts in
-    let seen = c.in_order-seen.result in
+    let seen = c.all_in_order-seen.result in
     let one = (c.in_ok-mounts.ensures.rests told).files in
     let two = (c.in_ok-find_no_pending.ensures.rests told).files in
     let three = (c.in_ok-seen.ensures.rests told).files in
     let all = surveyed start.root files c.args.root.now first.root (disk.view first.disk).files second.root (disk.view second.disk).files mounts c.in_ok-seen.seen seen c.in_ok-seen.counts.items
-    c.requires.root (c.in_ok-mounts.ensures.mounts told) c.in_ok-mounts.ensures.kept.root one (c.in_ok-find_no_pending.ensures.pending told) (c.in_ok-find_no_pending.ensures.kept.root ∙ c.in_ok-mounts.ensures.kept.root) (two ∙ one) (c.in_ok-seen.ensures.lists told) c.in_order-seen.ensures in
+    c.requires.root (c.in_ok-mounts.ensures.mounts told) c.in_ok-mounts.ensures.kept.root one (c.in_ok-find_no_pending.ensures.pending told) (c.in_ok-find_no_pending.ensures.kept.root ∙ c.in_ok-mounts.ensures.kept.root) (two ∙ one) (c.in_ok-seen.ensures.lists told) c.all_in_order-seen.ensures in
     let fault = c.in_err-rules.field-0.0 in
     let reads = subst (λ (folders : List Text). ReadsRules start.root files mounts folders (Err fault)) c.deref.ensures.value
     (rules_first start.root files third.root (disk.view third.disk).files mounts c.deref.result.now (Err fault) (c.in_ok-seen.ensures.kept.root ∙ (c.in_ok-find_no_pending.ensures.kept.root ∙ c.in_ok-mounts.ensures.kept.root)) (three ∙ (two ∙ one)) (c.in_err-rules.ensures.reads told)) in
@@ -75,13 +75,13 @@ returns-clause-opens g c told =
     let one = (c.in_ok-mounts.ensures.rests told).files in
     let two = (c.in_ok-find_no_pending.ensures.rests told).files in
     let three = (c.in_ok-seen.ensures.rests told).files in
-    let all = surveyed start.root files c.args.root.now first.root (disk.view first.disk).files second.root (disk.view second.disk).files mounts c.in_ok-seen.seen c.in_order-seen.result c.in_ok-seen.counts.items
-    c.requires.root (c.in_ok-mounts.ensures.mounts told) c.in_ok-mounts.ensures.kept.root one (c.in_ok-find_no_pending.ensures.pending told) (c.in_ok-find_no_pending.ensures.kept.root ∙ c.in_ok-mounts.ensures.kept.root) (two ∙ one) (c.in_ok-seen.ensures.lists told) c.in_order-seen.ensures in
+    let all = surveyed start.root files c.args.root.now first.root (disk.view first.disk).files second.root (disk.view second.disk).files mounts c.in_ok-seen.seen c.all_in_order-seen.result c.in_ok-seen.counts.items
+    c.requires.root (c.in_ok-mounts.ensures.mounts told) c.in_ok-mounts.ensures.kept.root one (c.in_ok-find_no_pending.ensures.pending told) (c.in_ok-find_no_pending.ensures.kept.root ∙ c.in_ok-mounts.ensures.kept.root) (two ∙ one) (c.in_ok-seen.ensures.lists told) c.all_in_order-seen.ensures in
     record {
       mounts_are = all.mounts_are;
       table = table_of start.root (files (mounts_path start.root)) mounts all.mounts_are (subst (λ (rows : List Row). IsTable (root_of rows) rows) c.mounts.view_is c.mounts.invariant);
       no_pending = all.no_pending;
-      survey = survey_first start.root files second.root (disk.view second.disk).files mounts c.in_ok-seen.seen c.in_order-seen.result c.in_ok-seen.counts.items (c.in_ok-find_no_pending.ensures.kept.root ∙ c.in_ok-mounts.ensures.kept.root) (two ∙ one) (c.in_ok-seen.ensures.lists told) c.in_order-seen.ensures;
+      survey = survey_first start.root files second.root (disk.view second.disk).files mounts c.in_ok-seen.seen c.all_in_order-seen.result c.in_ok-seen.counts.items (c.in_ok-find_no_pending.ensures.kept.root ∙ c.in_ok-mounts.ensures.kept.root) (two ∙ one) (c.in_ok-seen.ensures.lists told) c.all_in_order-seen.ensures;
       rising = all.rising;
       few_rules = grind (arith, nat_tests);
       few = grind (arith, nat_tests);

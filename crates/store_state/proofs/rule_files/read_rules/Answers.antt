@@ -1,4 +1,4 @@
-use Rattle.std.proofs.Common.{◌≡◌, ◌+◌, ◌<◌, ◌++◌, ◌∷◌, [], length, take, refl, ap, sym, ◌∙◌, subst, arith}
+use Rattle.std.proofs.Common.{rules, ◌≡◌, ◌+◌, ◌<◌, ◌++◌, ◌∷◌, [], length, take, refl, ap, sym, ◌∙◌, subst, arith}
 use Rattle.std.specs.FinMap as map
 use Rattle.std.specs.Ordering.{nat_cmp}
 use Rattle.std.specs.Cmp.Lexicographic.{slice_cmp}
@@ -20,7 +20,7 @@ loop-folder-init g c =
     let files = (disk.view start.disk).files in
     record {
       kept = record { root = refl; commits = refl; stuck = refl };
-      later = omega arith;
+      stays = refl;
       few = omega (arith, ap (λ (rules : RuleMap). map.len rules) c.new-rules.ensures, map.len-empty (slice_cmp nat_cmp) Ids);
       told = λ told. (rests_none (disk.view start.disk), subst (AreRules start.root files c.args.mounts.now []) (sym c.new-rules.ensures) (none_are start.root files c.args.mounts.now));
     }
@@ -41,7 +41,7 @@ loop-folder-preserved g c =
     let more : take (i + 1) folders ≡ take i folders ++ item ∷ [] = take_more folders i item lt ∙ ap (λ f. take i folders ++ f ∷ []) (sym c.folder-item.is) in
     record {
       kept = kept_then start before now was.kept c.in_ok-add_rule.ensures.kept;
-      later = (let earlier = was.later in let later = c.in_ok-add_rule.ensures.cause.later in omega (arith, earlier, later));
+      stays = search rules;
       few = (let so_far = was.few in let few = c.in_ok-add_rule.ensures.few in omega (arith, so_far, few));
       told = λ told. (let so_far = was.told told in
           let (rule, there, is) = c.in_ok-add_rule.ensures.adds told in

@@ -1,4 +1,4 @@
-use Rattle.std.proofs.Common.{◌≤◌, take}
+use Rattle.std.proofs.Common.{◌≡◌, ◌≤◌, take}
 use Rattle.std.specs.FinMap as map
 use Rattle.disk_model.specs.Disk.{Rests}
 use Rattle.pending_journal.specs.Opened.{IsSameVault}
@@ -10,7 +10,7 @@ invariant-loop-folder g l =
     let disk = g.D.Disk.meaning in
     record {
       kept : IsSameVault l.fn.vault l.vault;
-      later : disk.faults l.fn.vault.disk ≤ disk.faults l.vault.disk;
+      stays : disk.faults l.vault.disk ≡ disk.faults l.fn.vault.disk;
       few : map.len l.rules ≤ l.folder-index;
       told : disk.tells → Rests (disk.view l.fn.vault.disk) (disk.view l.vault.disk) × AreRules l.fn.vault.root (disk.view l.fn.vault.disk).files l.mounts (take l.folder-index l.folders) l.rules;
     }

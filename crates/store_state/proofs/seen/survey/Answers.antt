@@ -1,4 +1,4 @@
-use Rattle.std.proofs.Common.{Global, Vec, ◌≡◌, ◌+◌, ◌<◌, ℕ, length, ap, ◌∙◌, subst, refl, arith}
+use Rattle.std.proofs.Common.{rules, Global, Vec, ◌≡◌, ◌+◌, ◌<◌, ℕ, length, ap, ◌∙◌, subst, refl, arith}
 use Rattle.std.proofs.lemmas.List.{length_push}
 use Rattle.std.proofs.lemmas.Result.{err_from_is_err_and}
 use Rattle.gopass_base.specs.Text.{Text}
@@ -23,7 +23,7 @@ loop-row-preserved g c =
     let count = c.in_ok-add_mount.field-0 in
     record {
       kept = kept_then start before now was.kept c.in_ok-add_mount.ensures.kept;
-      later = (let later = c.in_ok-add_mount.ensures.cause.later in let earlier = was.later in omega (arith, earlier, later));
+      stays = search rules;
       counted = ap length c.in_ok-push.ensures.items ∙ (length_push c.loop-row.counts.items count ∙ ap (λ n. n + 1) was.counted);
       told = λ told. (let so_far = was.told told in
           let files = (disk.view start.disk).files in

@@ -1,4 +1,4 @@
-use Rattle.std.proofs.Common.{◌≡◌, ℕ, ◌<◌, ◌≤◌, length, get_or}
+use Rattle.std.proofs.Common.{◌≡◌, ℕ, ◌<◌, length, get_or}
 use Rattle.disk_model.specs.Disk.{Rests}
 use Rattle.pending_journal.specs.Opened.{IsSameVault}
 use Rattle.store_state.specs.Survey.{IsSeen, IsCountOf}
@@ -10,7 +10,7 @@ invariant-loop-row g l =
     let files = (disk.view l.fn.vault.disk).files in
     record {
       kept : IsSameVault l.fn.vault l.vault;
-      later : disk.faults l.fn.vault.disk ≤ disk.faults l.vault.disk;
+      stays : disk.faults l.vault.disk ≡ disk.faults l.fn.vault.disk;
       counted : length l.counts.items ≡ l.row;
       told : disk.tells → Rests (disk.view l.fn.vault.disk) (disk.view l.vault.disk) × IsSeen l.fn.vault.root files l.mounts l.row l.seen × ((k : ℕ) → k < l.row → IsCountOf l.fn.vault.root files l.mounts k (get_or l.counts.items k 0));
     }

@@ -1,8 +1,7 @@
-use Rattle.std.proofs.Common.{◌≤◌}
-use Rattle.pending_journal.specs.Carrying.{IsRemoved}
-use Rattle.pending_journal.specs.Recovery.{IsSameBut}
+use Rattle.std.proofs.Common.{◌≡◌}
+use Rattle.pending_journal.specs.Carrying.{IsRemoved, IsSameBut}
 use Rattle.disk_model.specs.Runs.{Runs}
-use Rattle.pending_journal.proofs.recover.remove_all.Given as goal
+use Rattle.pending_journal.proofs.commit.remove_all.Given as goal
 
 abbrev pub invariant-loop-path : goal.invariant-loop-path
 invariant-loop-path g l =
@@ -10,5 +9,5 @@ invariant-loop-path g l =
     record {
       runs : g.D.Disk.meaning.tells → Runs (IsSameBut l.paths) (view l.fn.disk) (view l.disk);
       removed : g.D.Disk.meaning.tells → IsRemoved l.paths l.path-index (view l.fn.disk).files (view l.disk).files;
-      faults : g.D.Disk.meaning.faults l.fn.disk ≤ g.D.Disk.meaning.faults l.disk;
+      faults : g.D.Disk.meaning.faults l.disk ≡ g.D.Disk.meaning.faults l.fn.disk;
     }
