@@ -1,11 +1,11 @@
 //! The body of a request: one line of the input, or all of it.
 
-ghost use Rattle.std.specs.Prelude.{◌≡◌, ◌++◌, ◌∷◌, ◌↔◌, ◌≤◌, [], IfOk, IfErr, IsTrue, IsFalse, Err, is_some, true, false};
+ghost use Rattle.std.specs.Prelude.{◌≡◌, ◌≢◌, ◌++◌, ◌∷◌, ◌↔◌, ◌≤◌, [], IfOk, IfErr, IsTrue, Err, is_some, true, false};
 ghost use Rattle.gopass_base.specs.Faults.{HasCause};
 ghost use Rattle.io_ports.specs.Source.{Told};
 ghost use Rattle.io_ports.specs.Input.{IsLine, content_of};
 ghost use Rattle.request_body.specs.Bodies.{HasLf, IsOver, TakesBody, input_of};
-ghost use Rattle.request_body.specs.Given.{IsGiven, IsLeft, IsNoBody, bytes_of, takes_body};
+ghost use Rattle.request_body.specs.Given.{IsGiven, IsNoBody, bytes_of, takes_body};
 ghost use Rattle.request_body.specs.declared.body.BodyFault.TheVariants.{NoMemory as no_memory};
 
 use command_words::Command;
@@ -114,8 +114,9 @@ pub fn take_body<S: Source>(
     ensures fits { IfOk result (λ body. is_some body ≡ takes_body command.now) }
     ensures refused { IfErr result (IsNoBody command.now (input_of S.meaning input.old input.new)) }
     ensures over { result ≡ Err BodyFault.Long → Told IsOver (S.meaning.left input.old) (S.meaning.left input.new) }
-    ensures left { takes_body command.now ≡ false → IsLeft (input_of S.meaning input.old input.new) }
+    ensures left { takes_body command.now ≡ false → input.new ≡ input.old }
     ensures later { S.meaning.faults input.old ≤ S.meaning.faults input.new }
+    ensures stays { result ≢ Err BodyFault.Failed → S.meaning.faults input.new ≡ S.meaning.faults input.old }
 {
     match command {
         Command::Insert { multi, .. } => match read_body(alloc, *multi, input) {

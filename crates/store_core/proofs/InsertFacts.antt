@@ -1,6 +1,6 @@
 -- What the tests of `insert` say of the state, and what a store has once a secret is put.
-use Rattle.std.proofs.Common.{◌≡◌, ◌≢◌, inl, inr, ℕ, ◌+◌, ◌<◌, ◌≤◌, Bool, true, false, not, ◌&&◌, cond, if◌then◌else◌, List, [], ◌∷◌, drop, length, insert, Option, None, Some, Result, Ok, Err, Vec, Global, refl, sym, ◌∙◌, ap, subst, arith, bytes_eq, length-set}
-use Rattle.std.specs.Prelude.{◌↔◌, IsTrue, IsFalse, Contains, is_some, option_map, slice_index_or}
+use Rattle.std.proofs.Common.{◌≡◌, ◌≢◌, ◌+◌, ◌<◌, ◌≤◌, Bool, true, false, not, ◌&&◌, if◌then◌else◌, List, [], ◌∷◌, drop, length, Option, None, Some, Result, Ok, Err, Global, refl, sym, ◌∙◌, ap, subst, arith, length-set}
+use Rattle.std.specs.Prelude.{is_some, option_map, slice_index_or}
 use Rattle.std.specs.FinMap as map
 use Rattle.std.proofs.Math.Logic.{∥∥₁_map}
 use Rattle.std.proofs.Math.Path.{fun_ext}
@@ -10,7 +10,7 @@ use Rattle.gopass_base.specs.Faults.{Rose}
 use Rattle.mount_table.specs.Names.{IsName}
 use Rattle.mount_table.specs.Paths.{file_of}
 use Rattle.mount_table.specs.Prefixes.{rest_start}
-use Rattle.mount_table.specs.Mounts.{IsFileOf, IsTable, row_at, root_of}
+use Rattle.mount_table.specs.Mounts.{IsFileOf, IsTable, row_at}
 use Rattle.mount_table.specs.MountOf.{mount_of}
 use Rattle.mount_table.proofs.MountLemmas.{one_row}
 use Rattle.mount_table.proofs.MountOfLemmas.{mount_computed}
@@ -36,13 +36,12 @@ use Rattle.store_core.specs.Moment.{Moment, Tools, moment_of}
 use Rattle.store_state.specs.Opening.{IsFound}
 use Rattle.store_state.specs.Places.{secret_path}
 use Rattle.store_state.specs.State.{State, Cell, AreSizes, StandsFor, cell_of}
-use Rattle.store_state.specs.Survey.{IsCountOf}
 use Rattle.store_core.specs.Refusals.{refusal_said}
-use Rattle.store_core.specs.Insert.{plan_insert, has_secret, full_for, passed_by, with_cell, one_more}
-use Rattle.store_core.specs.Inserting.{refusal_by_commit, IsUnruled, limit_by, MayPut, IsTested, SealsBody, IsGrownFor, TakesOver, IsPutOf}
+use Rattle.store_core.specs.Insert.{plan_insert, has_secret, passed_by, with_cell, one_more}
+use Rattle.store_core.specs.Inserting.{refusal_by_commit, IsUnruled, limit_by, MayPut, IsTested, SealsBody, IsGrownFor, TakesOver}
 use Rattle.store_core.specs.Performs.{Performs}
 use Rattle.store_state.proofs.KeyLemmas.{length-keys}
-use Rattle.store_state.proofs.AgreeLemmas.{mounts_agree, keys_agree, rules_agree, sizes_agree, row_agrees, table_agrees, among_keys}
+use Rattle.store_state.proofs.AgreeLemmas.{mounts_agree, keys_agree, rules_agree, sizes_agree, row_agrees, among_keys}
 use Rattle.store_core.proofs.GrowLemmas.{grown_is_found, grown_old, grown_new}
 use Rattle.store_state.proofs.PlaceLemmas.{place_by_search, place_is_new}
 use Rattle.store_core.proofs.PutLemmas.{secret_in_tree, counts_stay, counts_grow}
@@ -193,16 +192,18 @@ module _ (root : Text) (files after : Files) (found : Found) (name body bytes : 
 -- ---- a commit that failed
 
 pub commit_keeps : {D : Type 0} {G : Ghosts D} (old new : Store D G) (before after : Tools) (name : Text) (fault : CommitFault) (r : Refusal) → r ≡ refusal_by_commit fault → fault ≢ CommitStuck
-    → (moment_of old before).faults.disk ≤ (moment_of new after).faults.disk → (moment_of old before).faults.tools ≤ (moment_of new after).faults.tools
+    → (moment_of old before).faults.disk ≤ (moment_of new after).faults.disk → (moment_of new after).faults.tools ≡ (moment_of old before).faults.tools
     → (fault ≡ CommitDisk → Rose (moment_of old before).faults.disk (moment_of new after).faults.disk) → after.calls ≤ before.calls + 1 → new.vault.root ≡ old.vault.root
     → ((ring : Ring) → before.have ring → after.have ring) → Keeps 1 old new before after (refusal_said name r).status
 commit_keeps old new before after name CommitStuck r is other disk tools rose calls root rings = absurd (other refl)
 commit_keeps old new before after name CommitDisk r is other disk tools rose calls root rings = subst (λ x. Keeps 1 old new before after (refusal_said name x).status) (sym is) (record {
   causes = record {
     disk_later = disk;
-    tools_later = tools;
+    tools_later = omega (arith, tools);
     tool = λ e. absurd (omega (arith, e));
     disk = λ e. rose refl;
+    tools_stay = λ no_tool memory. tools;
+    disk_stays = λ no_disk memory. absurd (no_disk refl);
     no_sink = λ e. omega (arith, e);
   };
   calls = calls;
@@ -214,9 +215,11 @@ commit_keeps old new before after name CommitDisk r is other disk tools rose cal
 commit_keeps old new before after name CommitNoMemory r is other disk tools rose calls root rings = subst (λ x. Keeps 1 old new before after (refusal_said name x).status) (sym is) (record {
   causes = record {
     disk_later = disk;
-    tools_later = tools;
+    tools_later = omega (arith, tools);
     tool = λ e. absurd (omega (arith, e));
     disk = λ e. absurd (omega (arith, e));
+    tools_stay = λ no_tool memory. tools;
+    disk_stays = λ no_disk memory. absurd (memory refl);
     no_sink = λ e. omega (arith, e);
   };
   calls = calls;

@@ -43,6 +43,7 @@ use Rattle.store_core.specs.Said.{Said, Plan, granted, refused, answers, answers
 use Rattle.store_core.specs.Texts.{is_there_already, not_known, tool_failed}
 use Rattle.store_core.specs.Events.{Events, calm, refusing, Cause, TheDisk, Memory}
 use Rattle.store_core.specs.Moment.{Moment}
+use Rattle.store_core.specs.Elsewhere.{IsSameElsewhere}
 use Rattle.store_core.specs.Performs.{IsTied, Goes, LeftFor, IsPassed, Performs, stop_said}
 use Rattle.store_core.specs.Refusals.{refusal_said, refusal_by_disk}
 use Rattle.store_core.specs.Insert.{has_secret, with_cell, passed_by, insert_sealed, insert_within, insert_ruled, plan_insert}
@@ -54,7 +55,7 @@ use Rattle.store_state.proofs.FolderFileLemmas.{no_secret}
 use Rattle.store_state.proofs.KeyLemmas.{row_missing, row_there}
 use Rattle.store_core.proofs.PutLemmas.{no_mounts_file, no_pending_file}
 use Rattle.store_core.proofs.RoomLemmas.{room_by}
-use Rattle.store_core.proofs.PerformLemmas.{stands_at_rest, Still, calm_tied, refusing_tied, stopped_tied, quiet, quiet_stop}
+use Rattle.store_core.proofs.PerformLemmas.{stands_at_rest, rests_elsewhere, Still, calm_tied, refusing_tied, stopped_tied, quiet, quiet_stop}
 
 -- ---- a value more in a finite map
 
@@ -164,7 +165,7 @@ stands_inserted opens root files files' state name bytes content s table good ma
 -- ---- one commit: the files before it stand for the start, and those after it for the next state
 
 module _ (opens : Opens) (root : Text) (start next : State) (plan : Events → Plan) (old mid new : Moment) (after : Files) (s : StandsFor opens root old.view.files start) (t : StandsFor opens root after next)
-    (still : Still root old mid) (run : Leaves (IsBeforeOrAfter root mid.view.files after) mid.view new.view) where
+    (path bytes : Text) (made_is : after ≡ put mid.view.files path (Some bytes)) (still : Still root old mid) (run : Leaves (IsBeforeOrAfter root mid.view.files after) mid.view new.view) where
   left_before : (m : Files) → RecoversTo root m mid.view.files → LeftFor opens root start m
   left_before m stands = (mid.view.files, stands, subst (λ (f : Files). StandsFor opens root f start) (sym still.rests.files) s)
 
@@ -212,9 +213,18 @@ module _ (opens : Opens) (root : Text) (start next : State) (plan : Events → P
     still = λ e free. absurd (false≢true (sym free ∙ stuck));
   }
 
+  -- each file but this one is as it was
+  leaves_elsewhere : Leaves (IsSameElsewhere root (path ∷ []) old.view.files) old.view new.view
+  leaves_elsewhere = leaves_then (IsSameElsewhere root (path ∷ []) old.view.files) old.view mid.view new.view (rests_elsewhere root (path ∷ []) old mid still)
+      (leaves_weaken (IsBeforeOrAfter root mid.view.files after) (IsSameElsewhere root (path ∷ []) old.view.files) mid.view new.view each run)
+    where
+      each : (m : Files) → IsBeforeOrAfter root mid.view.files after m → IsSameElsewhere root (path ∷ []) old.view.files m
+      each m (inl before) = (mid.view.files, before, λ other apart. ap (λ (f : Files). f other) still.rests.files)
+      each m (inr made) = (after, made, λ other apart. ap (λ (f : Files). f other) made_is ∙ (put_apart mid.view.files path other (Some bytes) (λ same. apart (0, omega arith, same)) ∙ ap (λ (f : Files). f other) still.rests.files))
+
   -- the commit was answered, and the plan has this one state
   pub made_one : (events : Events) (said : Said) (calls : ℕ) → IsTied old.faults new.faults events None → new.calls ≤ old.calls + calls
-      → plan events ≡ record { said = said; states = next ∷ []; calls = calls; records = [] }
+      → plan events ≡ record { said = said; states = next ∷ []; calls = calls; changes = path ∷ []; records = [] }
       → ((path : Text) → is_service root path ≡ true → after path ≡ None) → IsDurable after new.view → new.commits ≡ counted mid.commits → Performs opens root plan start old new said
   made_one events said calls tied few is none made count = record {
     events = events;
@@ -223,11 +233,12 @@ module _ (opens : Opens) (root : Text) (start next : State) (plan : Events → P
     says = sym (ap (λ (p : Plan). p.said) is);
     goes = subst (λ (p : Plan). Goes opens root start p.states (length p.states) old new) (sym is) (goes_made none made count);
     calls = omega (arith, few, ap (λ (p : Plan). p.calls) is);
+    elsewhere = subst (λ (p : Plan). Leaves (IsSameElsewhere root p.changes old.view.files) old.view new.view) (sym is) leaves_elsewhere;
   }
 
   -- it failed, and the vault is stuck
   pub stopped_one : (cause : Cause) (said : Said) (calls : ℕ) → old.faults.tools ≤ new.faults.tools → (cause ≡ TheDisk → Rose old.faults.disk new.faults.disk) → new.calls ≤ old.calls + calls
-      → plan calm ≡ record { said = said; states = next ∷ []; calls = calls; records = [] }
+      → plan calm ≡ record { said = said; states = next ∷ []; calls = calls; changes = path ∷ []; records = [] }
       → new.commits ≡ mid.commits → new.stuck ≡ true → Performs opens root plan start old new (stop_said cause)
   stopped_one cause said calls later tie few is count stuck = record {
     events = calm;
@@ -236,6 +247,7 @@ module _ (opens : Opens) (root : Text) (start next : State) (plan : Events → P
     says = refl;
     goes = subst (λ (p : Plan). Goes opens root start (take (0 + 1) p.states) 0 old new) (sym is) (goes_stopped count stuck);
     calls = omega (arith, few, ap (λ (p : Plan). p.calls) is);
+    elsewhere = subst (λ (p : Plan). Leaves (IsSameElsewhere root p.changes old.view.files) old.view new.view) (sym is) leaves_elsewhere;
   }
 
 -- a count that rose from a later moment on rose from an earlier one
@@ -350,13 +362,13 @@ module _ (opens : Opens) (root : Text) (ring : Ring) (name body : Text) (force :
 
   -- the commit was answered
   pub insert_done : IsDurable after new.view → new.commits ≡ counted mid.commits → old.faults.tools ≤ new.faults.tools → new.calls ≤ old.calls + 1 → Performs opens root (plan_insert ring name body force state) state old new (granted [])
-  insert_done made count later few = made_one opens root state (with_cell name (Sealed (made_of ids body)) state) (plan_insert ring name body force state) old mid new after stands after_stands still run calm (granted []) 1
+  insert_done made count later few = made_one opens root state (with_cell name (Sealed (made_of ids body)) state) (plan_insert ring name body force state) old mid new after stands after_stands (secret_path state.mounts name) sealed changed still run calm (granted []) 1
       (calm_tied old.faults new.faults later) few (plan_sealed ring name body force state ids ruled None fresh room known) after_none made count
 
   -- it failed
   pub insert_stopped : (cause : Cause) → new.commits ≡ mid.commits → new.stuck ≡ true → old.faults.tools ≤ new.faults.tools → (cause ≡ TheDisk → Rose old.faults.disk new.faults.disk) → new.calls ≤ old.calls + 1
       → Performs opens root (plan_insert ring name body force state) state old new (stop_said cause)
-  insert_stopped cause count stuck later tie few = stopped_one opens root state (with_cell name (Sealed (made_of ids body)) state) (plan_insert ring name body force state) old mid new after stands after_stands still run cause (granted []) 1
+  insert_stopped cause count stuck later tie few = stopped_one opens root state (with_cell name (Sealed (made_of ids body)) state) (plan_insert ring name body force state) old mid new after stands after_stands (secret_path state.mounts name) sealed changed still run cause (granted []) 1
       later tie few (plan_sealed ring name body force state ids ruled None fresh room known) count stuck
 
   -- the same by the vault's fault: as a disk's failure, or as want of memory

@@ -5,6 +5,7 @@ use Rattle.gopass_base.specs.Text.{Text}
 use Rattle.gopass_base.specs.Faults.{Rose}
 use Rattle.disk_model.specs.Disk.{Rests}
 use Rattle.disk_model.specs.Files.{Files}
+use Rattle.disk_model.specs.Runs.{Leaves}
 use Rattle.disk_model.proofs.RunLemmas.{rests_none}
 use Rattle.cipher_port.specs.Tool.{Opens}
 use Rattle.pending_journal.specs.Redo.{IsAtRest, RecoversTo}
@@ -15,6 +16,7 @@ use Rattle.store_state.specs.State.{State, StandsFor}
 use Rattle.store_core.specs.Said.{Said, Plan}
 use Rattle.store_core.specs.Events.{Events, calm, refusing, Cause, TheDisk, Memory, Stop}
 use Rattle.store_core.specs.Moment.{Faults, Moment}
+use Rattle.store_core.specs.Elsewhere.{IsSameElsewhere}
 use Rattle.store_core.specs.Performs.{IsTied, Goes, LeftFor, Performs, cut_off, answered, stop_said}
 
 -- files without any of the vault's own stand for themselves
@@ -30,6 +32,17 @@ pub record Still (root : Text) (old new : Moment) : Type 0 where
 
 pub still_same : (root : Text) (m : Moment) → IsAtRest root m.view → Still root m m
 still_same root m rest = record { at_rest = rest; rests = rests_none m.view; commits = refl; tools_later = omega arith }
+
+-- so each file is as it was
+pub rests_elsewhere : (root : Text) (paths : List Text) (old new : Moment) → Still root old new → Leaves (IsSameElsewhere root paths old.view.files) old.view new.view
+rests_elsewhere root paths old new still = record {
+  later = still.rests.time.later;
+  now = each;
+  during = λ t m le left. ⊎_elim (λ was. inl was) (λ im. inr (each m im)) (still.rests.time.only t m le left);
+}
+  where
+    each : (m : Files) → new.view.images m → IsSameElsewhere root paths old.view.files m
+    each m im = (old.view.files, subst (λ (f : Files). RecoversTo root f old.view.files) (sym (still.at_rest.only m (still.rests.only m im))) (stands_at_rest root old.view.files still.at_rest.none), λ other apart. refl)
 
 cause_in : Option Stop → Cause
 cause_in None = Memory
@@ -79,9 +92,13 @@ module _ (opens : Opens) (root : Text) (start : State) (plan : Events → Plan) 
     still = λ e free. still.rests;
   }
 
+  -- and each file is as it was
+  still_elsewhere : (paths : List Text) → Leaves (IsSameElsewhere root paths old.view.files) old.view new.view
+  still_elsewhere paths = rests_elsewhere root paths old new still
+
   -- nothing is changed, and the plan has no states
   pub quiet : (events : Events) (said : Said) (calls : ℕ) → IsTied old.faults new.faults events None → new.calls ≤ old.calls + calls
-      → plan events ≡ record { said = said; states = []; calls = calls; records = [] } → Performs opens root plan start old new said
+      → plan events ≡ record { said = said; states = []; calls = calls; changes = []; records = [] } → Performs opens root plan start old new said
   quiet events said calls tied few is = record {
     events = events;
     stop = None;
@@ -89,6 +106,7 @@ module _ (opens : Opens) (root : Text) (start : State) (plan : Events → Plan) 
     says = sym (ap (λ (p : Plan). p.said) is);
     goes = subst (λ (p : Plan). Goes opens root start p.states (length p.states) old new) (sym is) (goes_still []);
     calls = omega (arith, few, ap (λ (p : Plan). p.calls) is);
+    elsewhere = still_elsewhere (plan events).changes;
   }
 
   -- the disk or want of memory stopped it before any commit
@@ -100,6 +118,7 @@ module _ (opens : Opens) (root : Text) (start : State) (plan : Events → Plan) 
     says = refl;
     goes = goes_still (take (0 + 1) (plan calm).states);
     calls = few;
+    elsewhere = still_elsewhere (plan calm).changes;
   }
 
 -- ---- want of memory behind the command: the same states, and another answer
@@ -117,4 +136,5 @@ wants_memory opens root start plan old new said p = record {
   says = refl;
   goes = subst (λ (states : List State). Goes opens root start states (answered p.stop (plan p.events)) old new) (cut_again p.stop (plan p.events)) p.goes;
   calls = p.calls;
+  elsewhere = p.elsewhere;
 }

@@ -17,12 +17,15 @@ Does {G = G} plan old new before after said =
     → StandsFor before.opens old.vault.root (G.meaning.view old.vault.disk).files start
     → Performs before.opens old.vault.root (plan ring start) start (moment_of old before) (moment_of new after) said
 
--- no count falls, and a fault is answered only where its count rose; that of a sink is not, since no sink is asked
+-- no count falls, and a fault is answered only where its count rose; that of a sink is not, since no sink is asked. Where the
+-- status is neither that of the fault nor want of memory the count stays, so no fault is passed over
 pub record HasCauses (old new : Faults) (status : ℕ) : Type 0 where
   pub disk_later : old.disk ≤ new.disk
   pub tools_later : old.tools ≤ new.tools
   pub tool : status ≡ 11 → Rose old.tools new.tools
   pub disk : status ≡ 12 → Rose old.disk new.disk
+  pub tools_stay : status ≢ 11 → status ≢ 14 → new.tools ≡ old.tools
+  pub disk_stays : status ≢ 12 → status ≢ 14 → new.disk ≡ old.disk
   pub no_sink : status ≢ 16
 
 -- told or not: the causes of the status, at most so many calls of tools, and what no command changes

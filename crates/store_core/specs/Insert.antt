@@ -8,8 +8,9 @@ use Rattle.path_rules.specs.Governing.{governing_ids}
 use Rattle.cipher_port.specs.Tool.{Ring, made_of, first_unknown}
 use Rattle.store_state.specs.declared.fault.Limit.{Limit}
 use Rattle.store_state.specs.declared.fault.Limit.TheVariants.{Secrets, Body, Files}
+use Rattle.store_state.specs.Places.{secret_path}
 use Rattle.store_state.specs.State.{State, Cell, Sealed}
-use Rattle.store_core.specs.Said.{Said, Plan, granted, refused, answers, answers_by_tool}
+use Rattle.store_core.specs.Said.{Plan, granted, refused, answers, answers_by_tool}
 use Rattle.store_core.specs.Texts.{is_there_already, no_rule_for, limit_passed, not_known, tool_failed}
 use Rattle.store_core.specs.Events.{Events, is_refused}
 
@@ -41,7 +42,7 @@ passed_by state name body = if nat_lt 32768 (length body) then Some Body else if
 -- sealed for these ids, unless the tool does not know one of them
 abbrev pub insert_sealed : Text → Text → State → Ids → Option ℕ → Plan
 insert_sealed name body state ids (Some place) = answers_by_tool (refused 9 (not_known (slice_index_or ids place [])))
-insert_sealed name body state ids None = record { said = granted []; states = with_cell name (Sealed (made_of ids body)) state ∷ []; calls = 1; records = [] }
+insert_sealed name body state ids None = record { said = granted []; states = with_cell name (Sealed (made_of ids body)) state ∷ []; calls = 1; changes = secret_path state.mounts name ∷ []; records = [] }
 
 abbrev pub insert_within : Ring → Text → Text → State → Events → Ids → Option Limit → Plan
 insert_within ring name body state events ids (Some limit) = answers (refused 10 (limit_passed limit))

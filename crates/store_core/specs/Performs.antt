@@ -11,6 +11,7 @@ use Rattle.store_state.specs.State.{State, StandsFor}
 use Rattle.store_core.specs.Said.{Said, Plan, refused, unsaid}
 use Rattle.store_core.specs.Events.{Events, failed_names, Cause, TheDisk, Memory, Stop}
 use Rattle.store_core.specs.Moment.{Faults, Moment}
+use Rattle.store_core.specs.Elsewhere.{IsSameElsewhere}
 
 -- a count that stands at its last value rose by n, and by no more
 pub record Counted (before n now : ℕ) : Type 0 where
@@ -34,7 +35,7 @@ stop_said Memory = unsaid
 -- a stop cuts a plan off: of its states there are those that were answered, and the next
 abbrev pub cut_off : Option Stop → Plan → Plan
 cut_off None plan = plan
-cut_off (Some stop) plan = record { said = stop_said stop.cause; states = take (stop.commits + 1) plan.states; calls = plan.calls; records = [] }
+cut_off (Some stop) plan = record { said = stop_said stop.cause; states = take (stop.commits + 1) plan.states; calls = plan.calls; changes = plan.changes; records = [] }
 
 -- the number of commits that were answered
 abbrev pub answered : Option Stop → Plan → ℕ
@@ -69,7 +70,8 @@ pub record Goes (opens : Opens) (root : Text) (start : State) (states : List Sta
   pub at_end : (m : Files) → new.view.images m → IsReached opens root start states n m
   pub still : n ≡ 0 → IsFalse new.stuck → Rests old.view new.view
 
--- the command does what is planned for some events, tied to what happened, up to a stop
+-- the command does what is planned for some events, tied to what happened, up to a stop. At any moment each file is as it
+-- was, byte for byte, but those that the plan may change
 pub record Performs (opens : Opens) (root : Text) (plan : Events → Plan) (start : State) (old new : Moment) (said : Said) : Type 0 where
   pub events : Events
   pub stop : Option Stop
@@ -77,3 +79,4 @@ pub record Performs (opens : Opens) (root : Text) (plan : Events → Plan) (star
   pub says : said ≡ (cut_off stop (plan events)).said
   pub goes : Goes opens root start (cut_off stop (plan events)).states (answered stop (plan events)) old new
   pub calls : new.calls ≤ old.calls + (plan events).calls
+  pub elsewhere : Leaves (IsSameElsewhere root (plan events).changes old.view.files) old.view new.view

@@ -15,11 +15,13 @@ pub record Record : Type 0 where
   pub dir : Text
   pub text : Text
 
--- a command: its answer, the states that it passes through, how often it calls a tool at most, and what is recorded of it
+-- a command: its answer, the states that it passes through, how often it calls a tool at most, the paths whose files it may
+-- change, and what is recorded of it
 pub record Plan : Type 0 where
   pub said : Said
   pub states : List State
   pub calls : ℕ
+  pub changes : List Text
   pub records : List Record
 
 abbrev pub granted : Text → Said
@@ -35,8 +37,8 @@ unsaid = record { status = 14; out = []; err = [] }
 
 -- a command that changes nothing and calls no tool
 abbrev pub answers : Said → Plan
-answers said = record { said = said; states = []; calls = 0; records = [] }
+answers said = record { said = said; states = []; calls = 0; changes = []; records = [] }
 
 -- a command that changes nothing and calls a tool once
 abbrev pub answers_by_tool : Said → Plan
-answers_by_tool said = record { said = said; states = []; calls = 1; records = [] }
+answers_by_tool said = record { said = said; states = []; calls = 1; changes = []; records = [] }

@@ -1,6 +1,6 @@
 //! What is found of a store that has one secret more.
 
-ghost use Rattle.std.specs.Prelude.{◌≡◌, ◌<◌, ◌≤◌, [], ◌∷◌, length, insert, slice_index_or, IfOk};
+ghost use Rattle.std.specs.Prelude.{◌≡◌, ◌<◌, ◌≤◌, length, insert, slice_index_or, IfOk};
 ghost use Rattle.store_core.specs.Insert.{one_more};
 ghost use Rattle.store_core.specs.Inserting.{IsGrownFor, TakesOver};
 

@@ -1,8 +1,8 @@
 //! The command `insert`.
 
-ghost use Rattle.std.specs.Prelude.{◌≡◌, ◌≢◌, ◌≤◌, [], length, IsFalse, IfOk, IfErr, OnOk, Some, Err};
+ghost use Rattle.std.specs.Prelude.{◌≡◌, ◌∷◌, ◌≢◌, ◌≤◌, [], length, IsFalse, IfOk, IfErr, OnOk, Some, Err};
 ghost use Rattle.gopass_base.specs.Text.{Text};
-ghost use Rattle.gopass_base.specs.Faults.{HasCause, counted};
+ghost use Rattle.gopass_base.specs.Faults.{IsCaused, counted};
 ghost use Rattle.path_rules.specs.Governing.{governing_ids};
 ghost use Rattle.disk_model.specs.Runs.{Leaves};
 ghost use Rattle.store_state.specs.Places.{secret_path};
@@ -42,7 +42,8 @@ fn seal_body<C: Cipher>(
     ensures ring { C.meaning.ring tool.new ≡ C.meaning.ring tool.old }
     ensures calls { C.meaning.calls tool.new ≡ counted (C.meaning.calls tool.old) }
     ensures no_disk { result ≢ Err Refusal.Disk }
-    ensures cause { HasCause (C.meaning.faults tool.old) (C.meaning.faults tool.new) ((name : Text) × (result ≡ Err (Refusal.Tool name))) }
+    ensures cause { IsCaused (C.meaning.faults tool.old) (C.meaning.faults tool.new) ((name : Text) × (result ≡ Err (Refusal.Tool name))) }
+    ensures stays { ((name : Text) → result ≢ Err (Refusal.Tool name)) → result ≢ Err Refusal.NoMemory → C.meaning.faults tool.new ≡ C.meaning.faults tool.old }
 {
     match tool.seal(alloc, ids, body) {
         Ok(sealed) => Ok(sealed),
@@ -124,7 +125,7 @@ impl<D: Disk> Store<D> {
             (said_by name.now (λ done. []) result) }
         ensures keeps { Keeps 1 self.old self.new (one_tool C.meaning tool.old) (one_tool C.meaning tool.new)
             (said_by name.now (λ done. []) result).status }
-        ensures elsewhere { D.meaning.tells → Leaves (IsSameElsewhere self.old.vault.root (secret_path self.old.found.mounts name.now) (D.meaning.view self.old.vault.disk).files)
+        ensures elsewhere { D.meaning.tells → Leaves (IsSameElsewhere self.old.vault.root (secret_path self.old.found.mounts name.now ∷ []) (D.meaning.view self.old.vault.disk).files)
             (D.meaning.view self.old.vault.disk) (D.meaning.view self.new.vault.disk) }
     {
         let ids = self.rule_for(name)?;

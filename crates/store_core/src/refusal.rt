@@ -8,7 +8,6 @@ use gopass_base::NoMemory;
 use mount_table::Name;
 use pending_journal::CommitFault;
 use recipient_files::Id;
-use std::alloc::AllocError;
 use store_state::Limit;
 
 /// Why a command is refused. The names are those of secrets.
@@ -41,14 +40,6 @@ impl From<NoMemory> for Refusal {
     ghost from_gives = { λ _ e. e ≡ no_memory };
 
     fn from(_: NoMemory) -> Self {
-        Refusal::NoMemory
-    }
-}
-
-impl From<AllocError> for Refusal {
-    ghost from_gives = { λ _ e. e ≡ no_memory };
-
-    fn from(_: AllocError) -> Self {
         Refusal::NoMemory
     }
 }

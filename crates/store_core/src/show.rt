@@ -2,7 +2,7 @@
 
 ghost use Rattle.std.specs.Prelude.{◌≡◌, ◌≢◌, IsFalse, Err};
 ghost use Rattle.gopass_base.specs.Text.{Text};
-ghost use Rattle.gopass_base.specs.Faults.{HasCause, counted};
+ghost use Rattle.gopass_base.specs.Faults.{IsCaused, counted};
 ghost use Rattle.disk_model.specs.Disk.{Rests};
 ghost use Rattle.store_core.specs.Moment.{one_tool};
 ghost use Rattle.store_core.specs.Does.{Does, Keeps};
@@ -52,7 +52,8 @@ fn unseal<C: Cipher>(
     ensures ring { C.meaning.ring tool.new ≡ C.meaning.ring tool.old }
     ensures calls { C.meaning.calls tool.new ≡ counted (C.meaning.calls tool.old) }
     ensures no_disk { result ≢ Err Refusal.Disk }
-    ensures cause { HasCause (C.meaning.faults tool.old) (C.meaning.faults tool.new) ((name : Text) × (result ≡ Err (Refusal.Tool name))) }
+    ensures cause { IsCaused (C.meaning.faults tool.old) (C.meaning.faults tool.new) ((name : Text) × (result ≡ Err (Refusal.Tool name))) }
+    ensures stays { ((name : Text) → result ≢ Err (Refusal.Tool name)) → result ≢ Err Refusal.NoMemory → C.meaning.faults tool.new ≡ C.meaning.faults tool.old }
 {
     match tool.open(alloc, sealed) {
         Ok(body) => Ok(body),

@@ -1,4 +1,4 @@
-use Rattle.std.proofs.Common.{rules, ◌<◌, ◌≤◌, length, refl}
+use Rattle.std.proofs.Common.{rules, ◌<◌, ◌≤◌, length}
 use Rattle.std.proofs.lemmas.Result.{err_from_is_err_and}
 use Rattle.request_body.proofs.BodyLemmas.{line_fault, line_over, line_body}
 use Rattle.request_body.proofs.body.read_one.Goals as goal

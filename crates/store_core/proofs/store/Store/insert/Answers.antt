@@ -1,5 +1,5 @@
-use Rattle.std.proofs.Common.{rules, Global, ℕ, ◌≡◌, ◌≢◌, ◌+◌, ◌<◌, ◌≤◌, ◌&&◌, not, List, Bool, false, true, [], ◌∷◌, Some, None, Option, Ok, Err, Result, Vec, refl, sym, ◌∙◌, ap, subst, arith}
-use Rattle.std.specs.Prelude.{IsTrue, IsFalse, is_err, slice_index_or, length}
+use Rattle.std.proofs.Common.{rules, Global, ◌≡◌, List, [], ◌∷◌, Some, Ok, Err, refl, sym, ◌∙◌, ap, subst, arith}
+use Rattle.std.specs.Prelude.{is_err, slice_index_or, length}
 use Rattle.std.proofs.lemmas.Result.{err_from_is_err_and}
 use Rattle.gopass_base.specs.Text.{Text}
 use Rattle.std.specs.FinMap as map
@@ -8,24 +8,18 @@ use Rattle.mount_table.specs.MountOf.{mount_of}
 use Rattle.mount_table.specs.declared.mounts.Row.{Row}
 use Rattle.disk_model.specs.Files.{Files, put}
 use Rattle.pending_journal.specs.Change.{changed}
-use Rattle.pending_journal.specs.declared.vault.CommitFault.{CommitFault}
-use Rattle.pending_journal.specs.declared.vault.CommitFault.TheVariants.{Stuck as CommitStuck, Disk as CommitDisk, NoMemory as CommitNoMemory}
 use Rattle.path_rules.specs.Governing.{governing_ids}
-use Rattle.recipient_files.specs.Ids.{Ids}
 use Rattle.cipher_port.specs.Tool.{Ring, made_of}
 use Rattle.store_core.specs.Moment.{Moment, moment_of, one_tool}
 use Rattle.store_state.specs.Opening.{IsFound}
-use Rattle.store_core.specs.Performs.{Performs}
 use Rattle.store_state.specs.Places.{secret_path}
 use Rattle.store_state.specs.State.{Sealed}
-use Rattle.store_core.specs.Insert.{plan_insert, has_secret}
-use Rattle.store_core.specs.Inserting.{refusal_by_commit, IsTested, SealsBody, limit_by}
-use Rattle.store_core.specs.declared.refusal.Refusal.{Refusal}
-use Rattle.store_core.specs.declared.refusal.Refusal.TheVariants.{Tool, Disk, NoMemory}
+use Rattle.store_core.specs.Insert.{has_secret}
+use Rattle.store_core.specs.Inserting.{refusal_by_commit, SealsBody, limit_by}
 use Rattle.store_state.proofs.AgreeLemmas.{mounts_agree, table_agrees}
 use Rattle.store_core.proofs.PerformLemmas.{Still, still_same}
-use Rattle.store_core.proofs.InsertLemmas.{insert_no_memory_then, insert_done, insert_broken, rose_since, never_stuck}
-use Rattle.store_core.proofs.InsertFacts.{ids_are, there_is, way_is, limit_is, insert_unruled, insert_tested, insert_unsealed, change_puts, secret_file, sizes_inserted, taken_is_found, commit_keeps}
+use Rattle.store_core.proofs.InsertLemmas.{insert_no_memory_then, insert_done, insert_broken, never_stuck}
+use Rattle.store_core.proofs.InsertFacts.{ids_are, way_is, limit_is, insert_unruled, insert_tested, insert_unsealed, change_puts, secret_file, sizes_inserted, taken_is_found, commit_keeps}
 use Rattle.store_core.proofs.RoomLemmas.{room_by}
 use Rattle.store_core.proofs.ElsewhereLemmas.{put_elsewhere, rest_elsewhere}
 use Rattle.store_core.proofs.store.Store.insert.Goals as goal
@@ -167,6 +161,11 @@ returns-in_err-commit-clause-planned g c told tells ring have start s =
     (λ e. p.2 ∙ ap refusal_by_commit e) (λ e. p.2 ∙ ap refusal_by_commit e) (λ e. c.commit.ensures.cause.failed (c.in_err-commit.was ∙ ap Err e))
     c.in_err-commit.ensures.uncounted (c.commit.ensures.is_stuck ∙ ap is_err c.in_err-commit.was) c.seal_body.ensures.cause.later (omega (arith, c.seal_body.ensures.calls)))
 
+pub returns-in_err-sealed-clause-keeps : goal.returns-in_err-sealed-clause-keeps
+returns-in_err-sealed-clause-keeps g c =
+    let p = err_from_is_err_and c.from_residual-in_err-sealed.result c.from_residual-in_err-sealed.ensures.1 in
+    rw (p.1, p.2) (search rules)
+
 pub returns-in_err-commit-clause-keeps : goal.returns-in_err-commit-clause-keeps
 returns-in_err-commit-clause-keeps g c =
     let self = c.args.self.now in
@@ -174,7 +173,7 @@ returns-in_err-commit-clause-keeps g c =
     let p = err_from_is_err_and c.from_residual-in_err-commit.result c.from_residual-in_err-commit.ensures.1 in
     rw (p.1) (commit_keeps self (record { vault = c.commit.new.self; found = self.found; agrees = c.in_err-commit.self-1-own.given.0 }) (one_tool g.C.Cipher.meaning c.args.tool.now) (one_tool g.C.Cipher.meaning c.seal_body.new.tool)
     c.args.name.now fault p.0 p.2 (never_stuck c.commit.result fault self.vault.stuck c.in_err-commit.was c.commit.ensures.was_stuck c.requires.free)
-    c.commit.ensures.cause.later c.seal_body.ensures.cause.later (λ e. c.commit.ensures.cause.failed (c.in_err-commit.was ∙ ap Err e)) (omega (arith, c.seal_body.ensures.calls)) c.commit.ensures.root
+    c.commit.ensures.cause.later (c.in_ok-sealed.ensures.stays (λ other e. absurd (cc)) (λ e. absurd (cc))) (λ e. c.commit.ensures.cause.failed (c.in_err-commit.was ∙ ap Err e)) (omega (arith, c.seal_body.ensures.calls)) c.commit.ensures.root
     (λ ring have. c.seal_body.ensures.ring ∙ have))
 
 pub invariant_of-self-2 : goal.invariant_of-self-2
@@ -241,27 +240,27 @@ returns-clause-planned g c told tells ring have start s =
 pub returns-in_err-ids-clause-elsewhere : goal.returns-in_err-ids-clause-elsewhere
 returns-in_err-ids-clause-elsewhere g c told =
     let self = c.args.self.now in
-    rest_elsewhere self.vault.root (secret_path self.found.mounts c.args.name.now) (g.D.Disk.meaning.view self.vault.disk) (self.vault.at_rest c.requires.free told)
+    rest_elsewhere self.vault.root (secret_path self.found.mounts c.args.name.now ∷ []) (g.D.Disk.meaning.view self.vault.disk) (self.vault.at_rest c.requires.free told)
 
 pub returns-in_err-test-clause-elsewhere : goal.returns-in_err-test-clause-elsewhere
 returns-in_err-test-clause-elsewhere g c told =
     let self = c.args.self.now in
-    rest_elsewhere self.vault.root (secret_path self.found.mounts c.args.name.now) (g.D.Disk.meaning.view self.vault.disk) (self.vault.at_rest c.requires.free told)
+    rest_elsewhere self.vault.root (secret_path self.found.mounts c.args.name.now ∷ []) (g.D.Disk.meaning.view self.vault.disk) (self.vault.at_rest c.requires.free told)
 
 pub returns-in_err-sealed-clause-elsewhere : goal.returns-in_err-sealed-clause-elsewhere
 returns-in_err-sealed-clause-elsewhere g c told =
     let self = c.args.self.now in
-    rest_elsewhere self.vault.root (secret_path self.found.mounts c.args.name.now) (g.D.Disk.meaning.view self.vault.disk) (self.vault.at_rest c.requires.free told)
+    rest_elsewhere self.vault.root (secret_path self.found.mounts c.args.name.now ∷ []) (g.D.Disk.meaning.view self.vault.disk) (self.vault.at_rest c.requires.free told)
 
 pub returns-in_err-grown-clause-elsewhere : goal.returns-in_err-grown-clause-elsewhere
 returns-in_err-grown-clause-elsewhere g c told =
     let self = c.args.self.now in
-    rest_elsewhere self.vault.root (secret_path self.found.mounts c.args.name.now) (g.D.Disk.meaning.view self.vault.disk) (self.vault.at_rest c.requires.free told)
+    rest_elsewhere self.vault.root (secret_path self.found.mounts c.args.name.now ∷ []) (g.D.Disk.meaning.view self.vault.disk) (self.vault.at_rest c.requires.free told)
 
 pub returns-in_err-change-clause-elsewhere : goal.returns-in_err-change-clause-elsewhere
 returns-in_err-change-clause-elsewhere g c told =
     let self = c.args.self.now in
-    rest_elsewhere self.vault.root (secret_path self.found.mounts c.args.name.now) (g.D.Disk.meaning.view self.vault.disk) (self.vault.at_rest c.requires.free told)
+    rest_elsewhere self.vault.root (secret_path self.found.mounts c.args.name.now ∷ []) (g.D.Disk.meaning.view self.vault.disk) (self.vault.at_rest c.requires.free told)
 
 pub returns-in_err-commit-clause-elsewhere : goal.returns-in_err-commit-clause-elsewhere
 returns-in_err-commit-clause-elsewhere g c told =
