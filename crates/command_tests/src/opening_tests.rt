@@ -87,7 +87,7 @@ fn a_mount_without_secrets_is_a_folder(rt: HostRuntime) -> Result<(), Fail> {
 }
 
 #[test]
-fn a_mounts_file_that_does_not_read(rt: HostRuntime) -> Result<(), Fail> {
+fn a_mounts_file_that_does_not_read_refuses_the_opening(rt: HostRuntime) -> Result<(), Fail> {
     let long = "x".repeat(rt.alloc(), 131_073)?;
     let unfinished: &[u8] = b"\troot\tplain\nwork\tw\tplain\nwork/db\td\tplain";
     let flag: &[u8] = b"\troot\tplain\nwork\tw\tplane\n";

@@ -36,7 +36,7 @@ fn a_store_without_rules_prints_none(rt: HostRuntime) -> Result<(), Fail> {
 }
 
 #[test]
-fn rules_of_mounts_and_shadowed_ones(rt: HostRuntime) -> Result<(), Fail> {
+fn rules_of_mounts_are_printed_and_shadowed_ones_are_not(rt: HostRuntime) -> Result<(), Fail> {
     let store = Store {
         files: &[
             (
@@ -65,7 +65,7 @@ fn rules_of_mounts_and_shadowed_ones(rt: HostRuntime) -> Result<(), Fail> {
 }
 
 #[test]
-fn a_rule_file_that_does_not_read(rt: HostRuntime) -> Result<(), Fail> {
+fn a_rule_file_that_does_not_read_refuses_the_opening(rt: HostRuntime) -> Result<(), Fail> {
     let long = "\n".repeat(rt.alloc(), 65_537)?;
     let carriage: &[u8] = b"alice\nbob\r\n";
     let none: &[u8] = b"# none\n";

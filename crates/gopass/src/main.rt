@@ -5,7 +5,7 @@ mod store;
 mod stream;
 
 use gopass_cli::{Ended, gopass};
-use std::alloc::{AllocError, Global};
+use std::alloc::AllocError;
 use std::process::ExitCode;
 use std::{env, io};
 use store::{disk, root, tool};

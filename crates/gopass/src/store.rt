@@ -1,8 +1,8 @@
 //! The store of the program: a root rule for alice, and the secret `web/site`.
 
-use cipher_port::{Id, IdFault, MemTool};
+use cipher_port::{Id, MemTool};
 use disk_model::MemDisk;
-use mount_table::{DirPath, FilePath, PathFault};
+use mount_table::{DirPath, FilePath};
 use std::alloc::{AllocError, Global};
 
 const RULE: &[u8] = b"alice\n";

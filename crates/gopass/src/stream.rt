@@ -1,6 +1,8 @@
 //! Standard input as a source, standard output and standard error as sinks.
 
-ghost use Rattle.std.specs.Prelude.{None};
+ghost use Rattle.std.specs.Prelude.{◌≡◌, ◌≤◌, length, IsErr, IfOk, None};
+ghost use Rattle.std.specs.Io.KnownBytes.{ReadConsumes, WriteAppends};
+ghost use Rattle.gopass_base.specs.Faults.{HasCause};
 
 use io_ports::{Failed, Sink, Source};
 use std::io::{Read, Write};
@@ -13,7 +15,10 @@ pub(crate) struct StdSink<W> {
 }
 
 impl<W: Write> StdSink<W> {
-    pub(crate) fn new(inner: W) -> StdSink<W> {
+    pub(crate) fn new(inner: W) -> StdSink<W>
+        ensures inner { result.inner ≡ inner }
+        ensures faults { result.faults ≡ 0 }
+    {
         StdSink { inner, faults: 0 }
     }
 }
@@ -21,7 +26,13 @@ impl<W: Write> StdSink<W> {
 impl<W: Write> Sink for StdSink<W> {
     ghost meaning = { record { held = λ _. None; faults = λ sink. sink.faults } };
 
-    fn put(&mut self, bytes: &[u8]) -> Result<usize, Failed> {
+    // By what the writer holds, where that is known: it took the bytes that are told, and none at a fault.
+    fn put(&mut self, bytes: &[u8]) -> Result<usize, Failed>
+        ensures some { IfOk result (λ n. 1 ≤ n) }
+        ensures bound { IfOk result (λ n. n ≤ length bytes.now) }
+        ensures cause { HasCause self.old.faults self.new.faults (IsErr result) }
+        ensures writes { WriteAppends (W.contents self.old.inner) (W.contents self.new.inner) result bytes.now }
+    {
         match self.inner.write(bytes) {
             Ok(count) if count > 0 => Ok(count),
             _ => {
@@ -40,7 +51,10 @@ pub(crate) struct StdSource<R> {
 }
 
 impl<R: Read> StdSource<R> {
-    pub(crate) fn new(inner: R) -> StdSource<R> {
+    pub(crate) fn new(inner: R) -> StdSource<R>
+        ensures inner { result.inner ≡ inner }
+        ensures faults { result.failed ≡ 0 }
+    {
         StdSource { inner, failed: 0 }
     }
 }
@@ -48,7 +62,13 @@ impl<R: Read> StdSource<R> {
 impl<R: Read> Source for StdSource<R> {
     ghost meaning = { record { left = λ _. None; faults = λ source. source.failed } };
 
-    fn take(&mut self, into: &mut [u8]) -> Result<usize, Failed> {
+    // By what the reader has left, where that is known: the bytes that are told came, none of them at its
+    // end alone, and none at a fault.
+    fn take(&mut self, into: &mut [u8]) -> Result<usize, Failed>
+        ensures bound { IfOk result (λ n. n ≤ length into.old) }
+        ensures cause { HasCause self.old.failed self.new.failed (IsErr result) }
+        ensures reads { ReadConsumes (R.remaining self.old.inner) (R.remaining self.new.inner) result into.new }
+    {
         if let Ok(count) = self.inner.read(into) {
             return Ok(count);
         }

@@ -1,23 +1,28 @@
 -- How runs after one another keep the crash promise.
-use Rattle.std.proofs.Common.{◌≡◌, ◌⊎◌, inl, inr, ⊎_elim, ℕ, zero, suc, ◌+◌, ◌<◌, List, [], ◌∷◌, ◌++◌, length, take, Option, Some, None, sym, subst, arith}
+use Rattle.std.proofs.Common.{◌≡◌, ◌⊎◌, inl, inr, ⊎_elim, ℕ, zero, suc, ◌+◌, ◌<◌, List, [], ◌∷◌, ◌++◌, length, take, Option, Some, None, refl, sym, ◌∙◌, ap, subst, arith}
 use Rattle.std.specs.Prelude.{Contains}
-use Rattle.std.proofs.lemmas.List.Elements.{Contains-append_left, Contains-append_cases}
+use Rattle.std.proofs.lemmas.List.Elements.{Contains-append_left, Contains-append_right, Contains-append_cases}
 use Rattle.gopass_base.specs.Text.{Text}
 use Rattle.gopass_base.proofs.ListLemmas.{here, later}
 use Rattle.disk_model.specs.Files.{Files}
 use Rattle.disk_model.specs.Disk.{View, DiskMeaning, IsSound}
 use Rattle.disk_model.specs.Runs.{Leaves}
+use Rattle.disk_model.proofs.RunLemmas.{leaves_weaken}
+use Rattle.pending_journal.specs.Redo.{RecoversTo}
+use Rattle.pending_journal.specs.Recovery.{IsOldOrAlike}
+use Rattle.pending_journal.proofs.PlanLemmas.{one_meaning}
+use Rattle.store_core.specs.Elsewhere.{IsSameElsewhere}
 use Rattle.cipher_port.specs.Tool.{Opens}
 use Rattle.store_state.specs.State.{State}
 use Rattle.store_core.specs.Performs.{IsReached, answered, cut_off, state_at}
 use Rattle.gopass_cli.specs.Plan.{plan_of}
-use Rattle.gopass_cli.specs.Safe.{IsOneOf, StandsForOne}
+use Rattle.gopass_cli.specs.Safe.{IsOneOf, IsOldOrElsewhere, StandsForOne}
 use Rattle.gopass_cli.proofs.SafeLemmas.{start_or}
 use Rattle.gopass_cli.proofs.KeptLemmas.{plan_kept}
 use Rattle.store_core.specs.Kept.{IsKept, AreAllKept}
 use Rattle.store_core.specs.Said.{Plan}
 use Rattle.store_core.specs.Events.{Stop}
-use Rattle.gopass_cli.specs.History.{Run, IsKeptBy, History, begun, handed_back, crashed, stopped, next_after, found_after, found_during}
+use Rattle.gopass_cli.specs.History.{Run, IsKeptBy, History, begun, handed_back, crashed, stopped, next_after, found_after, found_during, changed_by, changes_of, first_disk}
 
 -- the next state stands behind
 next_has : (start : State) (states : List State) (n : ℕ) → n < length states → Contains (next_after states n) (state_at start states (suc n))
@@ -114,3 +119,52 @@ module _ (opens : Opens) (root : Text) where
   history_kept disks first states disk (handed_back before old new run kept past) all = after_kept run before (disks.view old) (disks.view new) kept (history_kept disks first before old past all)
   history_kept disks first states disk (crashed before old new left run kept files past was stands) all = during_kept run before (disks.view old) (disks.view new) kept (history_kept disks first before old past all)
   history_kept disks first states disk (stopped before old left files past image stands) all = history_kept disks first before old past all
+
+  -- ---- every file that no plan may change stays as it was
+
+  -- more paths may differ
+  wider : (more paths : List Text) (files m : Files) → IsSameElsewhere root paths files m → IsSameElsewhere root (more ++ paths) files m
+  wider more paths files m same = (same.0, same.1, λ other apart. same.2 other (λ has. apart (Contains-append_right more paths other has)))
+
+  -- of files that stand for others, which the one of a disk stand for
+  alike_same : (paths : List Text) (files old after : Files) → IsSameElsewhere root paths files old → RecoversTo root old after → (other : Text) → ¬ Contains paths other → after other ≡ files other
+  alike_same paths files old after same stands other apart = ap (λ (f : Files). f other) (one_meaning root old after same.0 stands same.1) ∙ same.2 other apart
+
+  run_leaves : (run : Run) (before : List State) (old new : View) → IsSound old → (kept : IsKeptBy opens root run before old new) (paths : List Text) (files : Files)
+      → ((m : Files) → old.images m → IsSameElsewhere root paths files m) → Leaves (IsSameElsewhere root (changed_by opens root run before old new kept ++ paths) files) old new
+  run_leaves run before old new sound (inl none) paths files first = leaves_weaken (IsOldOrAlike root old) (IsSameElsewhere root paths files) old new each none.kept
+    where
+      each : (m : Files) → IsOldOrAlike root old m → IsSameElsewhere root paths files m
+      each m (inl im) = first m im
+      each m (inr (after, was, now)) = (after, now, alike_same paths files old.files after (first old.files sound.now) was)
+  run_leaves run before old new sound (inr (command, asked, went)) paths files first =
+      leaves_weaken (IsOldOrElsewhere root (plan_of run.ring command went.body went.start went.events).changes old went.found.0)
+      (IsSameElsewhere root ((plan_of run.ring command went.body went.start went.events).changes ++ paths) files) old new each went.others.any_moment
+    where
+      each : (m : Files) → IsOldOrElsewhere root (plan_of run.ring command went.body went.start went.events).changes old went.found.0 m
+          → IsSameElsewhere root ((plan_of run.ring command went.body went.start went.events).changes ++ paths) files m
+      each m (inl im) = wider (plan_of run.ring command went.body went.start went.events).changes paths files m (first m im)
+      each m (inr (after, stands, same)) = (
+        after,
+        stands,
+        λ other apart.
+            same other (λ has. apart (Contains-append_left (plan_of run.ring command went.body went.start went.events).changes paths other has))
+            ∙ alike_same paths files old.files went.found.0 (first old.files sound.now) went.found.1 other (λ has. apart (Contains-append_right (plan_of run.ring command went.body went.start went.events).changes paths other has)),
+      )
+
+  pub history_same : {D : Type 0} (disks : DiskMeaning D) → ((disk : D) → IsSound (disks.view disk)) → (first states : List State) (disk : D) (past : History disks opens root first states disk) (files : Files)
+      → ((m : Files) → (disks.view (first_disk disks opens root first states disk past)).images m → RecoversTo root m files)
+      → (m : Files) → (disks.view disk).images m → IsSameElsewhere root (changes_of disks opens root first states disk past) files m
+  unfolding changes_of first_disk
+  history_same disks sound first states disk (begun now stand) files start = λ m im. (files, start m im, λ other apart. refl)
+  history_same disks sound first states disk (handed_back before old new run kept past) files start =
+      (run_leaves run before (disks.view old) (disks.view new) (sound old) kept (changes_of disks opens root first before old past) files (history_same disks sound first before old past files start)).now
+  history_same disks sound first states disk (crashed before old new left run kept files' past was stands) files start = λ m im.
+      let paths = changes_of disks opens root first before old past in
+      let here = history_same disks sound first before old past files start in
+      let more = changed_by opens root run before (disks.view old) (disks.view new) kept in
+      subst (IsSameElsewhere root (more ++ paths) files) (sym (stands.only m im))
+      (since_start (IsSameElsewhere root (more ++ paths) files) (disks.view old) (disks.view new) (sound old) (λ n is. wider more paths files n (here n is))
+      (run_leaves run before (disks.view old) (disks.view new) (sound old) kept paths files here) files' was)
+  history_same disks sound first states disk (stopped before old left files' past image stands) files start = λ m im.
+      subst (IsSameElsewhere root (changes_of disks opens root first before old past) files) (sym (stands.only m im)) (history_same disks sound first before old past files start files' image)

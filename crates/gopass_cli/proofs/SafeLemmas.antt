@@ -8,12 +8,14 @@ use Rattle.disk_model.specs.Files.{Files}
 use Rattle.disk_model.specs.Disk.{View, IsSound, Rests}
 use Rattle.disk_model.specs.Runs.{Leaves}
 use Rattle.disk_model.proofs.RunLemmas.{leaves_none, leaves_then, leaves_weaken}
-use Rattle.pending_journal.specs.Redo.{IsAtRest, RecoversTo}
+use Rattle.pending_journal.specs.Redo.{IsAlike, IsAtRest, RecoversBy, RecoversTo}
+use Rattle.pending_journal.specs.Faults.{HasBadJournal, RefusesVault}
 use Rattle.pending_journal.specs.Recovery.{IsOldOrAlike}
 use Rattle.pending_journal.proofs.PlanLemmas.{one_meaning}
 use Rattle.store_core.proofs.PerformLemmas.{stands_at_rest}
 use Rattle.cipher_port.specs.Tool.{Opens, Ring}
 use Rattle.command_words.specs.declared.command.Command.{Command}
+use Rattle.store_state.specs.Faults.{IsFileFault}
 use Rattle.store_state.specs.State.{State, StandsFor}
 use Rattle.store_state.specs.declared.fault.StoreFault.{StoreFault}
 use Rattle.store_state.specs.declared.fault.StoreFault.TheVariants.{BadFile, Full, Disk, NoMemory}
@@ -22,6 +24,7 @@ use Rattle.pending_journal.specs.declared.fault.VaultFault.TheVariants.{BadJourn
 use Rattle.request_body.specs.declared.body.BodyFault.{BodyFault}
 use Rattle.request_body.specs.declared.body.BodyFault.TheVariants.{Missing, Long, Failed, NoMemory as NoBodyRoom}
 use Rattle.store_core.specs.Said.{Said, Plan, unsaid}
+use Rattle.store_core.specs.Elsewhere.{IsSameElsewhere}
 use Rattle.store_core.specs.Events.{Cause, TheDisk, Memory, Stop}
 use Rattle.store_core.specs.Moment.{Faults, Moment}
 use Rattle.store_core.specs.Performs.{IsPassed, LeftFor, Performs, cut_off, state_at, stop_said}
@@ -32,7 +35,7 @@ use Rattle.gopass_cli.specs.Opening.{fault_said, vault_said}
 use Rattle.gopass_cli.specs.Requests.{body_said}
 use Rattle.gopass_cli.specs.Replies.{Says}
 use Rattle.gopass_cli.specs.Printed.{Stream, Prints}
-use Rattle.gopass_cli.specs.Safe.{IsOneOf, StandsForOne, BeginsNone, BeganNone, Went, IsSafe}
+use Rattle.gopass_cli.specs.Safe.{IsOneOf, IsOldOrElsewhere, KeptOrOpens, StandsForOne, BeginsNone, BeganNone, Went, IsSafe}
 
 -- ---- states among others
 
@@ -56,23 +59,17 @@ passed_among before states start n from = elim (start_or start states n) [
 says_2 : BeginsNone 2
 says_2 = (0, omega arith, refl)
 
-says_6 : BeginsNone 6
-says_6 = (1, omega arith, refl)
-
-says_10 : BeginsNone 10
-says_10 = (2, omega arith, refl)
-
 says_12 : BeginsNone 12
-says_12 = (3, omega arith, refl)
+says_12 = (1, omega arith, refl)
 
 says_14 : BeginsNone 14
-says_14 = (4, omega arith, refl)
+says_14 = (2, omega arith, refl)
 
 says_15 : BeginsNone 15
-says_15 = (5, omega arith, refl)
+says_15 = (3, omega arith, refl)
 
 says_16 : BeginsNone 16
-says_16 = (6, omega arith, refl)
+says_16 = (4, omega arith, refl)
 
 -- what is said, or want of memory
 pub tells_said : (wanted said : Said) → BeginsNone wanted.status → Says wanted said → BeginsNone said.status
@@ -88,16 +85,23 @@ tells_body Long said says = tells_said (body_said Long) said says_15 says
 tells_body Failed said says = tells_said (body_said Failed) said says_15 says
 tells_body NoBodyRoom said says = tells_said (body_said NoBodyRoom) said says_14 says
 
-pub tells_store : (fault : StoreFault) (said : Said) → Says (fault_said fault) said → BeginsNone said.status
-tells_store (BadFile path line) said says = tells_said (fault_said (BadFile path line)) said says_6 says
-tells_store (Full limit) said says = tells_said (fault_said (Full limit)) said says_10 says
-tells_store Disk said says = tells_said (fault_said Disk) said says_12 says
-tells_store NoMemory said says = tells_said (fault_said NoMemory) said says_14 says
+-- files that stand for a state are no reason to refuse a store
+pub tells_store : (fault : StoreFault) (said : Said) → ¬ IsFileFault fault → Says (fault_said fault) said → BeginsNone said.status
+tells_store (BadFile path line) said fits says = absurd (fits tt)
+tells_store (Full limit) said fits says = absurd (fits tt)
+tells_store Disk said fits says = tells_said (fault_said Disk) said says_12 says
+tells_store NoMemory said fits says = tells_said (fault_said NoMemory) said says_14 says
 
-pub tells_vault : (root : Text) (fault : VaultFault) (said : Said) → Says (vault_said root fault) said → BeginsNone said.status
-tells_vault root (BadJournal line) said says = tells_said (vault_said root (BadJournal line)) said says_6 says
-tells_vault root NoVaultDisk said says = tells_said (vault_said root NoVaultDisk) said says_12 says
-tells_vault root NoVaultRoom said says = tells_said (vault_said root NoVaultRoom) said says_14 says
+-- files that stand for some have no bad journal
+no_bad_journal : (root : Text) (files after : Files) → RecoversTo root files after → HasBadJournal root files → ⊥
+no_bad_journal root files after stands (text, there, bad) =
+    let (plan, good, is, made) = subst (λ (file : Option Text). RecoversBy root file files after) there stands in
+    bad plan good is
+
+pub tells_vault : (root : Text) (files after : Files) (fault : VaultFault) (said : Said) → RecoversTo root files after → RefusesVault root files fault → Says (vault_said root fault) said → BeginsNone said.status
+tells_vault root files after (BadJournal line) said stands refuses says = absurd (no_bad_journal root files after stands refuses.0)
+tells_vault root files after NoVaultDisk said stands refuses says = tells_said (vault_said root NoVaultDisk) said says_12 says
+tells_vault root files after NoVaultRoom said stands refuses says = tells_said (vault_said root NoVaultRoom) said says_14 says
 
 pub tells_memory : (said : Said) → said ≡ unsaid → BeginsNone said.status
 tells_memory said is = subst (λ (s : Said). BeginsNone s.status) (sym is) says_14
@@ -161,14 +165,74 @@ module _ (opens : Opens) (root : Text) where
 
   -- the files on the disk stand for the state of the files that are found in a vault at rest
   pub found_before : (v0 v1 : View) → RecoversTo root v0.files v1.files → IsAtRest root v1 → (s : State) → LeftFor opens root s v1.files → LeftFor opens root s v0.files
-  found_before v0 v1 recovers rest s (after, again, stands) =
-      let same = one_meaning root v1.files v1.files after (stands_at_rest root v1.files rest.none) again in
-      (after, subst (RecoversTo root v0.files) same recovers, stands)
+  found_before v0 v1 recovers rest s left =
+      let same = one_meaning root v1.files v1.files left.0 (stands_at_rest root v1.files rest.none) left.1 in
+      (left.0, subst (RecoversTo root v0.files) same recovers, left.2)
+
+  -- a vault at rest of which nothing was changed
+  pub rested : (v0 v1 : View) → Rests v0 v1 → IsAtRest root v0 → IsAtRest root v1
+  rested v0 v1 rests rest = record {
+    only = λ m im. rest.only m (rests.only m im) ∙ sym rests.files;
+    none = λ path is. ap (λ (f : Files). f path) rests.files ∙ rest.none path is;
+  }
+
+  pub rested_recovers : (v0 v1 : View) → Rests v0 v1 → IsAtRest root v0 → RecoversTo root v0.files v1.files
+  rested_recovers v0 v1 rests rest = subst (RecoversTo root v0.files) (sym rests.files) (stands_at_rest root v0.files rest.none)
+
+  -- ---- each file is as it was
+
+  pub same_kept : (v : View) → Leaves (IsOldOrAlike root v) v v
+  same_kept v = leaves_none (IsOldOrAlike root v) v (λ m im. inl im)
+
+  pub rests_kept : (v0 v1 : View) → Rests v0 v1 → Leaves (IsOldOrAlike root v0) v0 v1
+  rests_kept v0 v1 rests = record {
+    later = rests.time.later;
+    now = λ m im. inl (rests.only m im);
+    during = λ t m le left. ⊎_elim (λ was. inl was) (λ im. inr (inl (rests.only m im))) (rests.time.only t m le left);
+  }
+
+  -- files alike to those of a vault at rest are alike to those of which it was made
+  alike_before : (v0 v1 : View) → RecoversTo root v0.files v1.files → IsAtRest root v1 → (m : Files) → IsAlike root v1.files m → IsAlike root v0.files m
+  alike_before v0 v1 recovers rest m (after, was, now) =
+      let same = one_meaning root v1.files v1.files after (stands_at_rest root v1.files rest.none) was in
+      (after, subst (RecoversTo root v0.files) same recovers, now)
+
+  kept_then : (v0 v1 v2 : View) → RecoversTo root v0.files v1.files → IsAtRest root v1 → Leaves (IsOldOrAlike root v0) v0 v1 → Leaves (IsOldOrAlike root v1) v1 v2 → Leaves (IsOldOrAlike root v0) v0 v2
+  kept_then v0 v1 v2 recovers rest first second = leaves_then (IsOldOrAlike root v0) v0 v1 v2 first (leaves_weaken (IsOldOrAlike root v1) (IsOldOrAlike root v0) v1 v2 each second)
+    where
+      each : (m : Files) → IsOldOrAlike root v1 m → IsOldOrAlike root v0 m
+      each m (inl im) = first.now m im
+      each m (inr alike) = inr (alike_before v0 v1 recovers rest m alike)
+
+  kept_elsewhere : (paths : List Text) (v : View) (files : Files) → RecoversTo root v.files files → (m : Files) → IsOldOrAlike root v m → IsOldOrElsewhere root paths v files m
+  kept_elsewhere paths v files stands m (inl im) = inl im
+  kept_elsewhere paths v files stands m (inr (after, was, now)) = inr (files, subst (RecoversTo root m) (one_meaning root v.files after files was stands) now, λ other apart. refl)
+
+  -- an opening, and then what keeps the files or opens the store
+  pub opens_then : (v0 v1 v2 : View) → RecoversTo root v0.files v1.files → IsAtRest root v1 → Leaves (IsOldOrAlike root v0) v0 v1 → KeptOrOpens root v1 v2 → KeptOrOpens root v0 v2
+  opens_then v0 v1 v2 recovers rest first (inl kept) = inl (kept_then v0 v1 v2 recovers rest first kept)
+  opens_then v0 v1 v2 recovers rest first (inr (after, again, found, is)) =
+      inr (after, subst (RecoversTo root v0.files) (one_meaning root v1.files v1.files after (stands_at_rest root v1.files rest.none) again) recovers, found, is)
+
+  elsewhere_then : (paths : List Text) (v0 v1 v2 : View) (files : Files) → RecoversTo root v0.files files → Leaves (IsOldOrAlike root v0) v0 v1 → Leaves (IsOldOrElsewhere root paths v1 files) v1 v2
+      → Leaves (IsOldOrElsewhere root paths v0 files) v0 v2
+  elsewhere_then paths v0 v1 v2 files stands first second = leaves_then (IsOldOrElsewhere root paths v0 files) v0 v1 v2
+      (leaves_weaken (IsOldOrAlike root v0) (IsOldOrElsewhere root paths v0 files) v0 v1 (kept_elsewhere paths v0 files stands) first)
+      (leaves_weaken (IsOldOrElsewhere root paths v1 files) (IsOldOrElsewhere root paths v0 files) v1 v2 each second)
+    where
+      each : (m : Files) → IsOldOrElsewhere root paths v1 files m → IsOldOrElsewhere root paths v0 files m
+      each m (inl im) = kept_elsewhere paths v0 files stands m (first.now m im)
+      each m (inr same) = inr same
 
   -- ---- a run that begins no command
 
-  pub none_then : (before : List State) (v0 v1 v2 : View) (status : ℕ) → Leaves (IsOneOf opens root before) v0 v1 → BeganNone opens root before v1 v2 status → BeganNone opens root before v0 v2 status
-  none_then before v0 v1 v2 status first none = record { tells = none.tells; any_moment = leaves_then (IsOneOf opens root before) v0 v1 v2 first none.any_moment }
+  pub none_then : (before : List State) (v0 v1 v2 : View) (status : ℕ) → RecoversTo root v0.files v1.files → IsAtRest root v1 → Leaves (IsOldOrAlike root v0) v0 v1 → Leaves (IsOneOf opens root before) v0 v1
+      → BeganNone opens root before v1 v2 status → BeganNone opens root before v0 v2 status
+  none_then before v0 v1 v2 status recovers rest kept first none = record {
+    tells = none.tells;
+    any_moment = leaves_then (IsOneOf opens root before) v0 v1 v2 first none.any_moment;
+    kept = kept_then v0 v1 v2 recovers rest kept none.kept;
+  }
 
   -- what is printed of it says so too
   pub none_printed : (before : List State) (v0 v1 : View) (said : Said) (status : ℕ) (out out' err err' : Stream) → Prints said status out out' err err'
@@ -176,19 +240,21 @@ module _ (opens : Opens) (root : Text) where
   none_printed before v0 v1 said status out out' err err' prints none = record {
     tells = tells_printed said status out out' err err' prints none.tells;
     any_moment = none.any_moment;
+    kept = none.kept;
   }
 
   -- ---- the parts one after another
 
   pub safe_after : (ring : Ring) (command : Command) (input : Input) (before : List State) (v0 v1 v2 : View) (f0 f1 f2 : Faults) (status : ℕ) → f0.disk ≤ f1.disk → f0.tools ≤ f1.tools
-      → ((s : State) → LeftFor opens root s v1.files → LeftFor opens root s v0.files) → Leaves (IsOneOf opens root before) v0 v1 → IsSafe opens root ring command input before v1 v2 f1 f2 status → IsSafe opens root ring command input before v0 v2 f0 f2 status
-  safe_after ring command input before v0 v1 v2 f0 f1 f2 status disk tools back first (inl none) = inl (none_then before v0 v1 v2 status first none)
-  safe_after ring command input before v0 v1 v2 f0 f1 f2 status disk tools back first (inr w) =
+      → RecoversTo root v0.files v1.files → IsAtRest root v1 → Leaves (IsOldOrAlike root v0) v0 v1 → Leaves (IsOneOf opens root before) v0 v1 → IsSafe opens root ring command input before v1 v2 f1 f2 status → IsSafe opens root ring command input before v0 v2 f0 f2 status
+  unfolding found_before
+  safe_after ring command input before v0 v1 v2 f0 f1 f2 status disk tools recovers rest kept first (inl none) = inl (none_then before v0 v1 v2 status recovers rest kept first none)
+  safe_after ring command input before v0 v1 v2 f0 f1 f2 status disk tools recovers rest kept first (inr w) =
       let states = (cut_off w.stop (plan_of ring command w.body w.start w.events)).states in
       inr (record {
         start = w.start;
         from = w.from;
-        found = back w.start w.found;
+        found = found_before v0 v1 recovers rest w.start w.found;
         body = w.body;
         given = w.given;
         events = w.events;
@@ -197,15 +263,21 @@ module _ (opens : Opens) (root : Text) where
         says = w.says;
         any_moment = leaves_then (IsOneOf opens root (before ++ states)) v0 v1 v2 (leaves_weaken (IsOneOf opens root before) (IsOneOf opens root (before ++ states)) v0 v1 (more_states before states) first) w.any_moment;
         at_end = w.at_end;
+        others = record {
+          any_moment = elsewhere_then (plan_of ring command w.body w.start w.events).changes v0 v1 v2 w.found.0 (found_before v0 v1 recovers rest w.start w.found).1 kept w.others.any_moment;
+          at_end = w.others.at_end;
+        };
+        at_rest = w.at_rest;
       })
 
   -- a command that performs its plan
-  pub went_performs : (ring : Ring) (command : Command) (input : Input) (body : Option Text) (before : List State) (start : State) (old new : Moment) (said : Said) → Contains before start → LeftFor opens root start old.view.files → IsGiven command input body
+  pub went_performs : (ring : Ring) (command : Command) (input : Input) (body : Option Text) (before : List State) (start : State) (old new : Moment) (said : Said) → Contains before start → IsAtRest root old.view → StandsFor opens root old.view.files start → IsGiven command input body → (said.status ≢ 12 → said.status ≢ 14 → IsAtRest root new.view)
       → Performs opens root (plan_of ring command body start) start old new said → Went opens root ring command input before old.view new.view old.faults new.faults said.status
-  went_performs ring command input body before start old new said from found given p = record {
+  unfolding rest_left
+  went_performs ring command input body before start old new said from rest stands given ends p = record {
     start = start;
     from = from;
-    found = found;
+    found = rest_left old.view start rest stands;
     body = body;
     given = given;
     events = p.events;
@@ -215,6 +287,12 @@ module _ (opens : Opens) (root : Text) where
     any_moment = leaves_weaken (IsPassed opens root start (cut_off p.stop (plan_of ring command body start p.events)).states) (IsOneOf opens root (before ++ (cut_off p.stop (plan_of ring command body start p.events)).states)) old.view new.view
         (passed_is_one before (cut_off p.stop (plan_of ring command body start p.events)).states start from) p.goes.any_moment;
     at_end = p.goes.at_end;
+    others = record {
+      any_moment = leaves_weaken (IsSameElsewhere root (plan_of ring command body start p.events).changes old.view.files) (IsOldOrElsewhere root (plan_of ring command body start p.events).changes old.view old.view.files) old.view new.view
+          (λ m same. inr same) p.elsewhere;
+      at_end = p.elsewhere.now;
+    };
+    at_rest = λ disk memory sink. ends disk memory;
   }
 
   -- and is printed: a status that is not 16 is that of the answer
@@ -232,4 +310,6 @@ module _ (opens : Opens) (root : Text) where
     says = λ sink. (let is = same sink in is ∙ w.says (λ e. sink (is ∙ e)));
     any_moment = w.any_moment;
     at_end = w.at_end;
+    others = w.others;
+    at_rest = λ disk memory sink. (let is = same sink in w.at_rest (λ e. disk (is ∙ e)) (λ e. memory (is ∙ e)) (λ e. sink (is ∙ e)));
   }

@@ -39,6 +39,7 @@ lifts opens root plan start old new said a b A B c d C D more least calls few p 
   says = p.says;
   goes = record { within = p.goes.within; counted = p.goes.counted; state = p.goes.state; any_moment = p.goes.any_moment; at_end = p.goes.at_end; still = p.goes.still };
   calls = omega (arith, calls, few, p.calls);
+  elsewhere = p.elsewhere;
 }
 
 -- ---- answers that allocate
@@ -101,6 +102,8 @@ module _ {D C : Type 0} {G : Ghosts D} (meaning : ToolMeaning C) (old new : Stor
       tools_later = omega (arith, sum_moves meaning.faults, sum_has meaning.faults, k.causes.tools_later);
       tool = λ e. (let rose = k.causes.tool e in omega (arith, sum_moves meaning.faults, sum_has meaning.faults, rose));
       disk = k.causes.disk;
+      tools_stay = λ other memory. (let same = k.causes.tools_stay other memory in omega (arith, sum_moves meaning.faults, sum_has meaning.faults, same));
+      disk_stays = k.causes.disk_stays;
       no_sink = k.causes.no_sink;
     };
     calls = omega (arith, sum_moves meaning.calls, sum_has meaning.calls, k.calls);
@@ -119,6 +122,8 @@ keeps_says most old new before after wanted said k (inr e) = record {
     tools_later = k.causes.tools_later;
     tool = λ is. absurd (differs 11 (sym is ∙ ap (λ (s : Said). s.status) e) (omega arith));
     disk = λ is. absurd (differs 12 (sym is ∙ ap (λ (s : Said). s.status) e) (omega arith));
+    tools_stay = λ other memory. absurd (memory (ap (λ (s : Said). s.status) e));
+    disk_stays = λ other memory. absurd (memory (ap (λ (s : Said). s.status) e));
     no_sink = λ is. (let sixteen : 16 ≡ 14 = sym is ∙ ap (λ (s : Said). s.status) e in omega (arith, sixteen));
   };
   calls = k.calls;

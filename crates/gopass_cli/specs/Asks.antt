@@ -4,8 +4,7 @@ use Rattle.gopass_base.specs.Text.{Text}
 use Rattle.command_words.specs.Said.{asked_by}
 use Rattle.command_words.specs.Words.{words_in}
 use Rattle.command_words.specs.declared.command.Command.{Command}
-use Rattle.request_body.specs.Bodies.{Input}
-use Rattle.request_body.specs.Given.{IsLeft, takes_body}
+use Rattle.request_body.specs.Given.{takes_body}
 use Rattle.gopass_cli.specs.Plan.{most_calls}
 
 -- the words give this command
@@ -16,6 +15,6 @@ GiveCommand words command = words_in words ≡ Ok (asked_by command)
 abbrev pub CallsTools : List Text → (before now : ℕ) → Type 0
 CallsTools words before now = (now ≡ before) ⊎ ((command : Command) × GiveCommand words command × (now ≤ before + most_calls command))
 
--- nothing is taken of the input, or the words give a command that takes a body
-abbrev pub TakesInput : List Text → Input → Type 0
-TakesInput words input = IsLeft input ⊎ ((command : Command) × GiveCommand words command × (takes_body command ≡ true))
+-- the input stays as it is, or the words give a command that takes a body
+abbrev pub TakesInput : {S : Type 0} → List Text → (old new : S) → Type 0
+TakesInput words old new = (new ≡ old) ⊎ ((command : Command) × GiveCommand words command × (takes_body command ≡ true))

@@ -55,3 +55,22 @@ pub data History {D : Type 0} (disks : DiskMeaning D) (opens : Opens) (root : Te
       → History disks opens root first (found_during opens root run before (disks.view old) (disks.view new) kept) left
   stopped : (before : List State) (old left : D) (files : Files)
       → History disks opens root first before old → (disks.view old).images files → IsDurable files (disks.view left) → History disks opens root first before left
+
+-- the paths that a run may have changed: those of the plan of its command, where it began one
+abbrev pub changed_by : (opens : Opens) (root : Text) (run : Run) (before : List State) (old new : View) → IsKeptBy opens root run before old new → List Text
+changed_by opens root run before old new (inl none) = []
+changed_by opens root run before old new (inr (command, asked, went)) = (plan_of run.ring command went.body went.start went.events).changes
+
+-- those that the runs of a history may have changed
+unfoldable pub changes_of : {D : Type 0} (disks : DiskMeaning D) (opens : Opens) (root : Text) (first states : List State) (disk : D) → History disks opens root first states disk → List Text
+changes_of disks opens root first states disk (begun now stand) = []
+changes_of disks opens root first states disk (handed_back before old new run kept past) = changed_by opens root run before (disks.view old) (disks.view new) kept ++ changes_of disks opens root first before old past
+changes_of disks opens root first states disk (crashed before old new left run kept files past was stands) = changed_by opens root run before (disks.view old) (disks.view new) kept ++ changes_of disks opens root first before old past
+changes_of disks opens root first states disk (stopped before old left files past image stands) = changes_of disks opens root first before old past
+
+-- the disk with which it began
+unfoldable pub first_disk : {D : Type 0} (disks : DiskMeaning D) (opens : Opens) (root : Text) (first states : List State) (disk : D) → History disks opens root first states disk → D
+first_disk disks opens root first states disk (begun now stand) = now
+first_disk disks opens root first states disk (handed_back before old new run kept past) = first_disk disks opens root first before old past
+first_disk disks opens root first states disk (crashed before old new left run kept files past was stands) = first_disk disks opens root first before old past
+first_disk disks opens root first states disk (stopped before old left files past image stands) = first_disk disks opens root first before old past

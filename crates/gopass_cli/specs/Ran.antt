@@ -53,12 +53,12 @@ module _ {D C S O E : Type 0} (means : Meanings D C S O E) where
   abbrev pub RanWithCauses : (old new : Outside D C S O E) → ℕ → Type 0
   RanWithCauses old new status = HasAllCauses (Told IsOver (means.input.left old.input) (means.input.left new.input)) (all_faults old) (all_faults new) status
 
-  -- tools are called no more often than the command may that the words give, and the input is left by one that takes no body;
-  -- bad words ask nobody
+  -- tools are called no more often than the command may that the words give, and the input stays as it is for one that takes no
+  -- body; bad words ask nobody
   pub record AsksOnly (words : List Text) (old new : Outside D C S O E) : Type 0 where
     pub calls : CallsTools words (sum_by means.tool.calls old.tools) (sum_by means.tool.calls new.tools)
-    pub left : TakesInput words (input_of means.input old.input new.input)
-    pub nobody : (at : ℕ) → words_in words ≡ Err at → (new.disk ≡ old.disk) × (new.tools ≡ old.tools)
+    pub left : TakesInput words old.input new.input
+    pub nobody : (at : ℕ) → words_in words ≡ Err at → (new.disk ≡ old.disk) × (new.tools ≡ old.tools) × (new.input ≡ old.input)
 
   -- where disk and tools tell
   abbrev pub IfTold : Outside D C S O E → (Ring → Type 0) → Type 0

@@ -16,9 +16,9 @@ ghost use Rattle.request_body.specs.Bodies.{Input, input_of};
 ghost use Rattle.gopass_cli.specs.Plan.{most_calls, plan_of};
 ghost use Rattle.gopass_cli.specs.Asks.{CallsTools, TakesInput};
 ghost use Rattle.command_words.specs.Words.{words_in};
-ghost use Rattle.request_body.specs.Given.{IsGiven, IsLeft, bytes_of, takes_body};
+ghost use Rattle.request_body.specs.Given.{IsGiven, bytes_of, takes_body};
 ghost use Rattle.gopass_cli.specs.Requests.{SaysOfRequest, body_said};
-ghost use Rattle.gopass_cli.specs.Safe.{IsSafe, IsSafeRun, StandsForOne, Went};
+ghost use Rattle.gopass_cli.specs.Safe.{KeptOrOpens, IsSafe, IsSafeRun, StandsForOne, Went};
 ghost use Rattle.gopass_cli.specs.Replies.{said_in, Says};
 ghost use Rattle.gopass_cli.specs.Run.{SaidWhereTold, RunSays, faults_of};
 
@@ -144,7 +144,7 @@ fn answer_open<D: Disk + Send, C: Cipher + Send, S: Source>(
         → IsSafe C.meaning.opens store.vault.root ring command (input_of S.meaning input.old input.new) before (D.meaning.view store.vault.disk) (D.meaning.view result.disk)
         (faults_of D.meaning store.vault.disk C.meaning tools.old.items) (faults_of D.meaning result.disk C.meaning tools.new.items) result.reply.status }
     ensures calls { sum_by C.meaning.calls tools.new.items ≤ sum_by C.meaning.calls tools.old.items + most_calls command }
-    ensures left { takes_body command ≡ false → IsLeft (input_of S.meaning input.old input.new) }
+    ensures left { takes_body command ≡ false → input.new ≡ input.old }
     ensures rings { (ring : Ring) → HaveRing C.meaning tools.old.items ring → HaveRing C.meaning tools.new.items ring }
     ensures count { vec_len tools.new ≡ vec_len tools.old }
     ensures causes { HasCauses (faults_of D.meaning store.vault.disk C.meaning tools.old.items)
@@ -180,8 +180,9 @@ fn answer_vault<D: Disk + Send, C: Cipher + Send, S: Source>(
         → (before : List State) → Contains before state
         → IsSafe C.meaning.opens vault.root ring command (input_of S.meaning input.old input.new) before (D.meaning.view vault.disk) (D.meaning.view result.disk)
         (faults_of D.meaning vault.disk C.meaning tools.old.items) (faults_of D.meaning result.disk C.meaning tools.new.items) result.reply.status }
+    ensures kept { D.meaning.tells → KeptOrOpens vault.root (D.meaning.view vault.disk) (D.meaning.view result.disk) }
     ensures calls { sum_by C.meaning.calls tools.new.items ≤ sum_by C.meaning.calls tools.old.items + most_calls command }
-    ensures left { takes_body command ≡ false → IsLeft (input_of S.meaning input.old input.new) }
+    ensures left { takes_body command ≡ false → input.new ≡ input.old }
     ensures rings { (ring : Ring) → HaveRing C.meaning tools.old.items ring → HaveRing C.meaning tools.new.items ring }
     ensures count { vec_len tools.new ≡ vec_len tools.old }
     ensures causes { HasCauses (faults_of D.meaning vault.disk C.meaning tools.old.items)
@@ -220,8 +221,9 @@ fn answer_command<D: Disk + Send, C: Cipher + Send, S: Source>(
         → (before : List State) → StandsForOne C.meaning.opens root.now before (D.meaning.view disk)
         → IsSafe C.meaning.opens root.now ring command (input_of S.meaning input.old input.new) before (D.meaning.view disk) (D.meaning.view result.disk)
         (faults_of D.meaning disk C.meaning tools.old.items) (faults_of D.meaning result.disk C.meaning tools.new.items) result.reply.status }
+    ensures kept { D.meaning.tells → KeptOrOpens root.now (D.meaning.view disk) (D.meaning.view result.disk) }
     ensures calls { sum_by C.meaning.calls tools.new.items ≤ sum_by C.meaning.calls tools.old.items + most_calls command }
-    ensures left { takes_body command ≡ false → IsLeft (input_of S.meaning input.old input.new) }
+    ensures left { takes_body command ≡ false → input.new ≡ input.old }
     ensures rings { (ring : Ring) → HaveRing C.meaning tools.old.items ring → HaveRing C.meaning tools.new.items ring }
     ensures count { vec_len tools.new ≡ vec_len tools.old }
     ensures causes { HasCauses (faults_of D.meaning disk C.meaning tools.old.items)
@@ -256,9 +258,10 @@ pub(crate) fn answer<D: Disk + Send, C: Cipher + Send, S: Source>(
         → (before : List State) → StandsForOne C.meaning.opens root.now before (D.meaning.view disk)
         → IsSafeRun C.meaning.opens root.now ring (map string_bytes words.now) (input_of S.meaning input.old input.new) before (D.meaning.view disk) (D.meaning.view result.disk)
         (faults_of D.meaning disk C.meaning tools.old.items) (faults_of D.meaning result.disk C.meaning tools.new.items) result.reply.status }
+    ensures kept { D.meaning.tells → KeptOrOpens root.now (D.meaning.view disk) (D.meaning.view result.disk) }
     ensures calls { CallsTools (map string_bytes words.now) (sum_by C.meaning.calls tools.old.items) (sum_by C.meaning.calls tools.new.items) }
-    ensures left { TakesInput (map string_bytes words.now) (input_of S.meaning input.old input.new) }
-    ensures nobody { (at : ℕ) → words_in (map string_bytes words.now) ≡ Err at → (result.disk ≡ disk) × (tools.new.items ≡ tools.old.items) }
+    ensures left { TakesInput (map string_bytes words.now) input.old input.new }
+    ensures nobody { (at : ℕ) → words_in (map string_bytes words.now) ≡ Err at → (result.disk ≡ disk) × (tools.new.items ≡ tools.old.items) × (input.new ≡ input.old) }
     ensures rings { (ring : Ring) → HaveRing C.meaning tools.old.items ring → HaveRing C.meaning tools.new.items ring }
     ensures count { vec_len tools.new ≡ vec_len tools.old }
     ensures causes { HasCauses (faults_of D.meaning disk C.meaning tools.old.items)

@@ -6,7 +6,10 @@ ghost use Rattle.cipher_port.specs.Tool.{Opens, Ring};
 ghost use Rattle.store_state.specs.State.{State};
 ghost use Rattle.store_core.specs.Events.{Events};
 ghost use Rattle.store_core.specs.Kept.{IsKept, AreAllKept};
-ghost use Rattle.gopass_cli.specs.History.{History};
+ghost use Rattle.disk_model.specs.Files.{Files};
+ghost use Rattle.pending_journal.specs.Redo.{RecoversTo};
+ghost use Rattle.store_core.specs.Elsewhere.{IsSameElsewhere};
+ghost use Rattle.gopass_cli.specs.History.{History, changes_of, first_disk};
 ghost use Rattle.gopass_cli.specs.Plan.{plan_of};
 ghost use Rattle.request_body.specs.Bodies.{Input};
 ghost use Rattle.store_core.specs.Moment.{Faults};
@@ -32,10 +35,13 @@ pub fn ended_runs_are_whole<D: Disk>(root: &DirPath, command: &Command)
 /// Runs after one another keep the crash promise, each on the disk that the last one handed back or
 /// on what a crash of it left: what a crash now would leave stands for one of the states that may be
 /// found, and in each of these each secret is made for exactly the ids that govern it, where it was
-/// so at first.
+/// so at first. Each file that no plan may change is as it was at first, byte for byte.
 pub fn histories_are_safe<D: Disk>(root: &DirPath)
     ensures stands { D.meaning.tells → (opens : Opens) (first states : List State) (disk : D)
         → History D.meaning opens root.now first states disk → StandsForOne opens root.now states (D.meaning.view disk) }
     ensures kept { (opens : Opens) (first states : List State) (disk : D)
         → History D.meaning opens root.now first states disk → AreAllKept first → AreAllKept states }
+    ensures others { D.meaning.tells → (opens : Opens) (first states : List State) (disk : D) (past : History D.meaning opens root.now first states disk) (files : Files)
+        → ((m : Files) → (D.meaning.view (first_disk D.meaning opens root.now first states disk past)).images m → RecoversTo root.now m files)
+        → (m : Files) → (D.meaning.view disk).images m → IsSameElsewhere root.now (changes_of D.meaning opens root.now first states disk past) files m }
 {}

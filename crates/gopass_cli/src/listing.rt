@@ -5,7 +5,7 @@ ghost use Rattle.gopass_base.specs.Text.{Text};
 ghost use Rattle.mount_table.specs.Prefixes.{Holds};
 ghost use Rattle.store_core.specs.Said.{granted};
 ghost use Rattle.store_core.specs.Reads.{rows_under};
-ghost use Rattle.store_core.specs.Show.{holds_one, names_of};
+ghost use Rattle.store_core.specs.Show.{holds_one};
 ghost use Rattle.gopass_cli.specs.Replies.{IsInnerStatus, Says, said_in};
 ghost use Rattle.gopass_cli.specs.Listings.{SaysInState};
 ghost use Rattle.gopass_cli.specs.Ls.{is_alias, listed, list_folder, list_word, plan_ls};

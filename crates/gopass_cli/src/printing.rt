@@ -1,6 +1,6 @@
 //! What is printed of an answer.
 
-ghost use Rattle.std.specs.Prelude.{◌≡◌, ◌≤◌};
+ghost use Rattle.std.specs.Prelude.{◌≡◌, ◌≢◌, ◌≤◌};
 ghost use Rattle.gopass_cli.specs.Replies.{said_in};
 ghost use Rattle.gopass_cli.specs.Printed.{Prints, printed, stream_of};
 
@@ -26,6 +26,8 @@ pub(crate) fn print<O: Sink, E: Sink>(reply: &Reply, out: &mut O, err: &mut E) -
         (stream_of E.meaning err.old) (stream_of E.meaning err.new) }
     ensures out_later { O.meaning.faults out.old ≤ O.meaning.faults out.new }
     ensures err_later { E.meaning.faults err.old ≤ E.meaning.faults err.new }
+    ensures out_stays { result ≢ 16 → O.meaning.faults out.new ≡ O.meaning.faults out.old }
+    ensures err_stays { result ≢ 16 → E.meaning.faults err.new ≡ E.meaning.faults err.old }
 {
     if put_all(out, &reply.out).is_err() {
         return 16;

@@ -3,6 +3,7 @@
 ghost use Rattle.std.specs.Prelude.{◌≡◌, ◌≤◌, map, string_bytes, vec_len};
 ghost use Rattle.cipher_port.specs.Tool.{Ring};
 ghost use Rattle.store_core.specs.Moment.{HaveRing};
+ghost use Rattle.gopass_cli.specs.Safe.{KeptOrOpens};
 ghost use Rattle.gopass_cli.specs.Ran.{AsksOnly, Ran, RanCalmly, RanSafely, RanWithCauses, meanings, outside};
 
 use crate::answers::{Answered, answer};
@@ -62,11 +63,13 @@ pub fn gopass<D: Disk + Send, C: Cipher + Send, S: Source, O: Sink, E: Sink>(
 
     // The crash promise, where disk and tools tell: what a crash leaves at any moment of the run, its
     // opening included, stands for a state before or for one that the plan of the command passes
-    // through, and at the end for the last one, where the status is none of 12, 14 and 16. A run that
-    // begins no command says so by its status.
+    // through, and at the end of one that begins a command for the last one, where the status is none
+    // of 12, 14 and 16. A run that begins none says so by its status. Each file that the plan may not
+    // change stays as it is, byte for byte; so does each file of a store that does not open.
     ensures safe { RanSafely (meanings D.meaning C.meaning S.meaning O.meaning E.meaning) (map string_bytes words.now) root.now
         (outside disk tools.old.items input.old out.old err.old)
         (outside result.disk tools.new.items input.new out.new err.new) result.status }
+    ensures kept { D.meaning.tells → KeptOrOpens root.now (D.meaning.view disk) (D.meaning.view result.disk) }
 
     // Told or not: bad words ask nobody, tools are called no more often than the command may, and a
     // command without a body leaves the input. The rings and the number of tools stay.
@@ -76,7 +79,8 @@ pub fn gopass<D: Disk + Send, C: Cipher + Send, S: Source, O: Sink, E: Sink>(
     ensures rings { (ring : Ring) → HaveRing C.meaning tools.old.items ring → HaveRing C.meaning tools.new.items ring }
     ensures count { vec_len tools.new ≡ vec_len tools.old }
 
-    // Told or not, a fault of the outside is answered only where its count rose.
+    // Told or not, a fault of the outside is answered only where its count rose; and where the status is
+    // none of 11, 12, 14, 15 and 16 no count rose.
     ensures causes { RanWithCauses (meanings D.meaning C.meaning S.meaning O.meaning E.meaning)
         (outside disk tools.old.items input.old out.old err.old)
         (outside result.disk tools.new.items input.new out.new err.new) result.status }

@@ -11,7 +11,7 @@ use Rattle.gopass_cli.specs.Opening.{SaysOfCommand}
 use Rattle.gopass_cli.specs.Replies.{said_in}
 use Rattle.gopass_cli.specs.Run.{SaidInRun, RunSays, SaysOfWords, faults_of}
 use Rattle.gopass_cli.proofs.RunLemmas.{runs_meant, runs_unsaid, runs_weaker}
-use Rattle.gopass_cli.proofs.SafeLemmas.{same_safe, tells_memory, tells_words}
+use Rattle.gopass_cli.proofs.SafeLemmas.{same_kept, same_safe, tells_memory, tells_words}
 use Rattle.gopass_cli.proofs.answers.answer.Goals as goal
 
 pub returns-in-Ok-clause-answers : goal.returns-in-Ok-clause-answers
@@ -51,10 +51,18 @@ pub returns-in-Err-Bad-clause-safe : goal.returns-in-Err-Bad-clause-safe
 returns-in-Err-Bad-clause-safe g c told tells ring have before stand = inl (record {
   tells = tells_words (said_in c.refuse_words.result) (refused 2 (bad_words c.in-Err-Bad.at)) refl c.refuse_words.ensures;
   any_moment = same_safe g.C.Cipher.meaning.opens c.args.root.now before (g.D.Disk.meaning.view c.args.disk) stand;
+  kept = same_kept g.C.Cipher.meaning.opens c.args.root.now (g.D.Disk.meaning.view c.args.disk);
 })
 
 pub returns-in-Err-NoMemory-clause-safe : goal.returns-in-Err-NoMemory-clause-safe
 returns-in-Err-NoMemory-clause-safe g c told tells ring have before stand = inl (record {
   tells = tells_memory (said_in c.no_memory.result) c.no_memory.ensures;
   any_moment = same_safe g.C.Cipher.meaning.opens c.args.root.now before (g.D.Disk.meaning.view c.args.disk) stand;
+  kept = same_kept g.C.Cipher.meaning.opens c.args.root.now (g.D.Disk.meaning.view c.args.disk);
 })
+
+pub returns-in-Err-Bad-clause-kept : goal.returns-in-Err-Bad-clause-kept
+returns-in-Err-Bad-clause-kept g c told = inl (same_kept g.C.Cipher.meaning.opens c.args.root.now (g.D.Disk.meaning.view c.args.disk))
+
+pub returns-in-Err-NoMemory-clause-kept : goal.returns-in-Err-NoMemory-clause-kept
+returns-in-Err-NoMemory-clause-kept g c told = inl (same_kept g.C.Cipher.meaning.opens c.args.root.now (g.D.Disk.meaning.view c.args.disk))

@@ -9,7 +9,7 @@ use Rattle.gopass_cli.specs.Requests.{SaysOfRequest}
 use Rattle.gopass_cli.specs.Run.{SaidInRun, faults_of}
 use Rattle.gopass_cli.specs.Safe.{IsSafe}
 use Rattle.gopass_cli.proofs.RunLemmas.{runs_weaker, runs_no_body}
-use Rattle.gopass_cli.proofs.SafeLemmas.{same_safe, rest_stands, tells_body}
+use Rattle.gopass_cli.proofs.SafeLemmas.{same_kept, same_safe, rest_stands, tells_body}
 use Rattle.gopass_cli.proofs.answers.answer_open.Goals as goal
 
 pub returns-in-Ok-clause-answers : goal.returns-in-Ok-clause-answers
@@ -45,4 +45,5 @@ returns-in-Err-clause-safe g c state stands told tells ring have before from =
     (inl (record {
       tells = tells_body c.in-Err.fault (said_in c.refuse_body.result) c.refuse_body.ensures;
       any_moment = same_safe opens store.vault.root before view (rest_stands opens store.vault.root before view state (store.vault.at_rest c.requires.free told) stands from);
+      kept = same_kept opens store.vault.root view;
     }))

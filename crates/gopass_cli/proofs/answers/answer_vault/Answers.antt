@@ -2,16 +2,17 @@ use Rattle.std.proofs.Common.{inl, inr, refl, sym, subst, arith}
 use Rattle.gopass_base.specs.Text.{Text}
 use Rattle.disk_model.specs.Files.{Files}
 use Rattle.store_state.specs.State.{StandsFor}
+use Rattle.store_state.proofs.OpenLemmas.{never_refused}
 use Rattle.store_state.proofs.StandsLemmas.{found_state, found_stands}
+use Rattle.store_core.proofs.PerformLemmas.{stands_at_rest}
 use Rattle.gopass_cli.specs.Opening.{SaysOfCommand}
 use Rattle.request_body.specs.Bodies.{input_of}
 use Rattle.gopass_cli.specs.Requests.{SaysOfRequest}
-use Rattle.store_core.specs.Performs.{LeftFor}
-use Rattle.gopass_cli.specs.Safe.{IsSafe}
+use Rattle.gopass_cli.specs.Safe.{IsSafe, KeptOrOpens}
 use Rattle.gopass_cli.specs.Replies.{said_in}
 use Rattle.gopass_cli.specs.Run.{SaidInRun, faults_of}
 use Rattle.gopass_cli.proofs.RunLemmas.{runs_fault, runs_later, runs_weaker}
-use Rattle.gopass_cli.proofs.SafeLemmas.{rest_stands, rests_safe, safe_after, tells_store}
+use Rattle.gopass_cli.proofs.SafeLemmas.{rest_stands, rested, rested_recovers, rests_kept, rests_safe, safe_after, tells_store}
 use Rattle.gopass_cli.proofs.answers.answer_vault.Goals as goal
 
 pub returns-in-Ready-clause-answers : goal.returns-in-Ready-clause-answers
@@ -62,7 +63,8 @@ returns-in-Ready-clause-safe g c state stands told tells ring have before from =
     let rests = c.in-Ready.ensures.rests told in
     let here = subst (λ (r : Text). StandsFor opens r v1.files state) (sym c.in-Ready.ensures.kept.root) (subst (λ (f : Files). StandsFor opens root f state) (sym rests.files) stands) in
     let safe = subst (λ (r : Text). IsSafe opens r ring c.args.command input before v1 v2 f1 f2 c.answer_open.result.reply.status) c.in-Ready.ensures.kept.root (c.answer_open.ensures.safe state here told tells ring have before from) in
-    safe_after opens root ring c.args.command input before v0 v1 v2 f0 f1 f2 c.answer_open.result.reply.status c.in-Ready.ensures.later (omega arith) (λ s left. subst (LeftFor opens root s) rests.files left) (rests_safe opens root before v0 v1 rests stand) safe
+    safe_after opens root ring c.args.command input before v0 v1 v2 f0 f1 f2 c.answer_open.result.reply.status c.in-Ready.ensures.later (omega arith) (rested_recovers opens root v0 v1 rests (vault.at_rest c.requires.free told)) (rested opens root v0 v1 rests (vault.at_rest c.requires.free told))
+    (rests_kept opens root v0 v1 rests) (rests_safe opens root before v0 v1 rests stand) safe
 
 pub returns-in-Refused-clause-safe : goal.returns-in-Refused-clause-safe
 returns-in-Refused-clause-safe g c state stands told tells ring have before from =
@@ -74,6 +76,19 @@ returns-in-Refused-clause-safe g c state stands told tells ring have before from
     let stand = rest_stands opens vault.root before v0 state (vault.at_rest c.requires.free told) stands from in
     subst (λ d. IsSafe opens vault.root ring c.args.command input before v0 (g.D.Disk.meaning.view d) f0 (faults_of g.D.Disk.meaning d g.C.Cipher.meaning c.args.tools.now.items) c.refuse_store.result.status) (sym c.into_disk.ensures)
     (inl (record {
-      tells = tells_store c.in-Refused.fault (said_in c.refuse_store.result) c.refuse_store.ensures;
+      tells = tells_store c.in-Refused.fault (said_in c.refuse_store.result) (never_refused opens vault.root v0.files state stands c.in-Refused.fault (c.in-Refused.ensures.opens told)) c.refuse_store.ensures;
       any_moment = rests_safe opens vault.root before v0 (g.D.Disk.meaning.view c.in-Refused.vault.disk) (c.in-Refused.ensures.rests told) stand;
+      kept = rests_kept opens vault.root v0 (g.D.Disk.meaning.view c.in-Refused.vault.disk) (c.in-Refused.ensures.rests told);
     }))
+
+pub returns-in-Ready-clause-kept : goal.returns-in-Ready-clause-kept
+returns-in-Ready-clause-kept g c told =
+    let v0 = g.D.Disk.meaning.view c.args.vault.disk in
+    inr (v0.files, stands_at_rest c.args.vault.root v0.files (c.args.vault.at_rest c.requires.free told).none, c.in-Ready.store.found, c.in-Ready.ensures.opens told)
+
+pub returns-in-Refused-clause-kept : goal.returns-in-Refused-clause-kept
+returns-in-Refused-clause-kept g c told =
+    let vault = c.args.vault in
+    let v0 = g.D.Disk.meaning.view vault.disk in
+    subst (λ d. KeptOrOpens vault.root v0 (g.D.Disk.meaning.view d)) (sym c.into_disk.ensures)
+    (inl (rests_kept g.C.Cipher.meaning.opens vault.root v0 (g.D.Disk.meaning.view c.in-Refused.vault.disk) (c.in-Refused.ensures.rests told)))
