@@ -250,6 +250,45 @@ impl DirPath {
     }
 }
 
+impl PartialEq for DirPath {
+    ghost eq = { pointwise ◌==◌ };
+
+    ghost laws = { Prim.search (comparing, rules) };
+
+    fn eq(&self, other: &DirPath) -> bool {
+        self.text() == other.text()
+    }
+}
+
+impl Eq for DirPath {
+    ghost laws = { Prim.search (comparing, rules) };
+}
+
+/// By the bytes of their texts.
+impl Ord for DirPath {
+    ghost cmp = { slice_cmp nat_cmp };
+
+    ghost total = { Prim.search (comparing, rules) };
+
+    ghost matches_partial_cmp = { Prim.search (comparing, rules) };
+
+    ghost matches_eq = { Prim.search (comparing, rules) };
+
+    fn cmp(&self, other: &DirPath) -> Ordering {
+        self.text().cmp(other.text())
+    }
+}
+
+impl PartialOrd for DirPath {
+    ghost partial_cmp = { as_partial_cmp (slice_cmp nat_cmp) };
+
+    ghost laws = { partial_order_from_own_ties (Prim.search (comparing, rules)) (Prim.search (comparing, rules)) };
+
+    fn partial_cmp(&self, other: &DirPath) -> Option<Ordering> {
+        Some(self.cmp(other))
+    }
+}
+
 fn has_no_hidden_part(text: &str) -> bool
     ensures { IsTrue result ↔ All (λ part. ¬ IsHidden part) (parts text.now) }
 {

@@ -119,6 +119,9 @@ fn paths_are_in_the_order_of_their_bytes(rt: HostRuntime) -> Result<(), Fail> {
     assert!(rt; dir.join(rt.alloc(), "b")? == inner);
     assert!(rt; inner != next);
     assert!(rt; inner < next);
+    let beside = DirPath::read(rt.alloc(), "a0")?;
+    assert!(rt; dir != beside);
+    assert!(rt; dir < beside);
     Ok(())
 }
 
