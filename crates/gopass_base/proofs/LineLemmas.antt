@@ -1,11 +1,10 @@
 -- Cutting at a byte, and the lines of a text.
-use Rattle.std.proofs.Common.{◌≡◌, ◌≢◌, ℕ, zero, suc, ◌+◌, ◌<◌, List, [], ◌∷◌, ◌++◌, length, get_or, take, drop, All, cond, eqb, true, false, refl, ap, sym, ◌∙◌, subst, arith, eq-eqb, ne_eqb, length-append, length-take, take-append-drop}
+use Rattle.std.proofs.Common.{◌≡◌, ◌≢◌, ℕ, zero, suc, ◌+◌, ◌<◌, List, [], ◌∷◌, ◌++◌, length, get_or, take, drop, All, cond, eqb, true, false, refl, ap, sym, ◌∙◌, subst, arith, eq-eqb, ne_eqb, length-append, length-take, take-append-drop, inl, inr}
 use Rattle.std.specs.Prelude.{Option, Some, None}
 use Rattle.std.specs.List.{onto_first}
 use Rattle.std.proofs.lemmas.List.{at_drop_more, get_or-take}
 use Rattle.std.proofs.lemmas.List.Splits.{slice_split-cons_yes, slice_split-cons_no, slice_split_at}
 use Rattle.std.proofs.lemmas.Bool.Decides.{eqb_tells}
-use Rattle.std.proofs.Common.{inl, inr}
 use Rattle.gopass_base.specs.Text.{Text}
 use Rattle.gopass_base.specs.Lines.{IsCut, cut_at, with_first, pieces_of}
 

@@ -9,13 +9,16 @@ counted n = min (n + 1) (2 ^ 64 - 1)
 abbrev pub Rose : ℕ → ℕ → Type 0
 Rose before now = counted before ≤ now
 
--- the count did not fall, and the call failed only where it rose
-pub record IsCaused (before now : ℕ) (Failed : Type 0) : Type 0 where
-  pub later : before ≤ now
-  pub failed : Failed → Rose before now
-
--- and where the call did not fail the count stays: no fault is passed over
+-- the call failed only where the count rose, and then by one; where it did not fail the count stays. So no fault is passed
+-- over, and no two calls of the outside fail in one
 pub record HasCause (before now : ℕ) (Failed : Type 0) : Type 0 where
   pub later : before ≤ now
   pub failed : Failed → Rose before now
   pub stays : ¬ Failed → now ≡ before
+  pub once : now ≤ before + 1
+
+-- what was asked in calls: n of them where it was done, and no more else. A count stands at its last value
+pub record Costs (n before now : ℕ) (Done : Type 0) : Type 0 where
+  pub later : before ≤ now
+  pub most : now ≤ before + n
+  pub all : Done → min (before + n) (2 ^ 64 - 1) ≤ now

@@ -3,3 +3,5 @@ pub mod Faults
 pub mod Calls
 pub mod Lines
 pub mod Order
+pub mod Parts
+pub mod Paths

@@ -24,3 +24,11 @@ cut_at c (b ∷ bs) = if b == c then Some ([], bs) else with_first b (cut_at c b
 -- the lines of a text, each ended by an LF, and last what stands behind the last LF
 abbrev pub pieces_of : Text → List Text
 pieces_of text = slice_split (λ b. b == 10) text
+
+abbrev pub front_or : Option (Text × Text) → Text → Text
+front_or None text = text
+front_or (Some cut) text = cut.0
+
+-- a text up to the first such byte, or all of it where it has none
+abbrev pub before_byte : ℕ → Text → Text
+before_byte byte text = front_or (cut_at byte text) text

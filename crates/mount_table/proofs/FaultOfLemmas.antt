@@ -6,7 +6,8 @@ use Rattle.std.proofs.lemmas.Bool.{and_parts, not-false}
 use Rattle.std.proofs.lemmas.Bool.Decides.{nat_tests, Decides-by_and, Decides-not, Decides-eqb, not_from_Decides}
 use Rattle.std.proofs.lemmas.Slice.Eq.{bytes_eq-Decides}
 use Rattle.gopass_base.specs.Text.{Text, IsPrintable}
-use Rattle.mount_table.specs.Names.{parts, IsName, IsNamePart, IsHidden}
+use Rattle.gopass_base.specs.Parts.{parts, IsHidden}
+use Rattle.mount_table.specs.Names.{IsName, IsNamePart}
 use Rattle.mount_table.specs.NameFaults.{Fails, IsGood, AreGood, IsGoodAt, IsFirstFault, IsFault, IsNameFault, is_folder, part_at, start_of}
 use Rattle.mount_table.specs.Folders.{IsFolder, IsFolderText, IsFolderFault, without_slash}
 use Rattle.mount_table.specs.FaultOf.{is_printable, kind_of_part, fault_or, first_fault, fault_of, name_fault, folder_fault}

@@ -3,9 +3,9 @@ use Rattle.std.proofs.Common.{◌≡◌, ℕ, ◌<◌, List, [], ◌∷◌, ◌+
 use Rattle.std.specs.List.{join_with_byte}
 use Rattle.std.proofs.lemmas.List.{append_cancel_left}
 use Rattle.std.proofs.lemmas.List.Splits.{join_with_byte-slice_split}
-use Rattle.mount_table.specs.Names.{parts}
+use Rattle.gopass_base.specs.Parts.{parts}
 use Rattle.mount_table.specs.Prefixes.{IsProperPrefix, Holds}
-use Rattle.mount_table.proofs.JoinLemmas.{parts_join}
+use Rattle.gopass_base.proofs.JoinLemmas.{parts_join}
 use Rattle.mount_table.proofs.PartLemmas.{parts_fill}
 
 pub join-append : (c : ℕ) (p : List ℕ) (ps : List (List ℕ)) (q : List ℕ) (qs : List (List ℕ)) → join_with_byte c (p ∷ ps ++ q ∷ qs) ≡ join_with_byte c (p ∷ ps) ++ c ∷ join_with_byte c (q ∷ qs)

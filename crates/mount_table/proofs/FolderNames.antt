@@ -3,7 +3,8 @@ use Rattle.std.proofs.Common.{◌≡◌, ℕ, ◌≤◌, false, [], ◌∷◌, l
 use Rattle.std.specs.Prelude.{Option, Some, None, MatchOption}
 use Rattle.std.proofs.lemmas.List.Elements.{All-nil, All-from_get_or}
 use Rattle.gopass_base.specs.Text.{Text}
-use Rattle.mount_table.specs.Names.{parts, IsNamePart, IsSealedName}
+use Rattle.gopass_base.specs.Parts.{parts, IsSealedName}
+use Rattle.mount_table.specs.Names.{IsNamePart}
 use Rattle.mount_table.specs.NameFaults.{is_folder, part_at, AreGood, IsFault}
 use Rattle.mount_table.specs.Folders.{IsFolder, without_slash}
 use Rattle.mount_table.specs.declared.name.BadName.{BadName}

@@ -1,7 +1,6 @@
-pub mod EachPart
 pub mod PartLemmas
 pub mod NameLemmas
-pub mod JoinLemmas
+pub mod FileLemmas
 pub mod FolderLemmas
 pub mod FolderNames
 pub mod FaultOfLemmas
@@ -11,6 +10,4 @@ pub mod OrderLemmas
 pub mod TableLemmas
 pub mod MountLemmas
 pub mod MountOfLemmas
-pub mod TextLemmas
-pub mod CleanLemmas
 pub mod LineLemmas

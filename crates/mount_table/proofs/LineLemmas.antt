@@ -2,13 +2,19 @@
 use Rattle.std.proofs.Common.{◌≡◌, ◌≢◌, ◌⊎◌, inl, inr, ℕ, ◌+◌, ◌<◌, List, [], ◌∷◌, ◌++◌, length, Bool, true, false, All, codes, refl, ap, sym, ◌∙◌, subst, arith, append_assoc, length-append}
 use Rattle.std.proofs.lemmas.List.{append-nil, get_or_at, get_or_append_left}
 use Rattle.std.proofs.lemmas.List.Elements.{All-cons, All-head, All-tail, All-append, All-from_get_or}
-use Rattle.gopass_base.specs.Text.{Text}
+use Rattle.gopass_base.specs.Text.{Text, IsPrintable}
 use Rattle.gopass_base.specs.Lines.{Lacks, IsCut}
 use Rattle.mount_table.specs.Mounts.{IsRow, IsBefore, no_row, row_at, AreRows, IsTable}
 use Rattle.mount_table.specs.MountsText.{flag_of, line_of, table_text, CanFollow, IsFirstBad}
 use Rattle.mount_table.specs.declared.mounts.Row.{Row}
-use Rattle.mount_table.proofs.JoinLemmas.{printable_text}
-use Rattle.mount_table.proofs.CleanLemmas.{clean_folder, clean_dir, lacks_control, same_cut, no_cut}
+use Rattle.gopass_base.proofs.JoinLemmas.{printable_text}
+use Rattle.mount_table.specs.Folders.{IsFolder}
+use Rattle.std.proofs.lemmas.List.Elements.{All-nil}
+use Rattle.gopass_base.proofs.CleanLemmas.{whole_text, clean_dir, lacks_control, same_cut, no_cut}
+
+pub clean_folder : (text : Text) → IsFolder text → All IsPrintable text
+clean_folder [] folder = All-nil IsPrintable
+clean_folder (b ∷ text) folder = whole_text (b ∷ text) (λ k d lt. (folder.each k d lt).printable)
 
 pub alias_lacks : (row : Row) (c : ℕ) → c < 32 → IsRow row → Lacks c row.alias
 alias_lacks row c low good = lacks_control c row.alias low (clean_folder row.alias good.alias_folder)

@@ -5,10 +5,10 @@ use Rattle.std.specs.List.{insert}
 use Rattle.std.specs.Str.{is_utf8}
 use Rattle.std.proofs.lemmas.List.{get_or_default}
 use Rattle.gopass_base.specs.Text.{Text}
-use Rattle.mount_table.specs.Names.{parts}
+use Rattle.gopass_base.specs.Parts.{parts}
 use Rattle.mount_table.specs.Prefixes.{folder_parts, IsPrefix, Holds}
 use Rattle.mount_table.specs.Folders.{IsFolder}
-use Rattle.mount_table.specs.Paths.{IsDirPath}
+use Rattle.gopass_base.specs.Paths.{IsDirPath}
 use Rattle.mount_table.specs.Mounts.{IsBelow, no_row, row_at, root_of, IsTable, IsMountOf, IsMountOfFolder, new_row, HasAliasAt, LacksAlias, IsApart}
 use Rattle.mount_table.specs.declared.mounts.Row.{Row}
 use Rattle.mount_table.proofs.OrderLemmas.{one_alias, not_below_itself}

@@ -4,32 +4,32 @@ use Rattle.std.proofs.lemmas.List.{get_or_at, append_assoc, append-nil}
 use Rattle.std.proofs.lemmas.Slice.Eq.{bytes_eq-Decides}
 use Rattle.std.proofs.lemmas.Bool.{and_parts, true≢false}
 use Rattle.gopass_base.specs.Text.{Text}
-use Rattle.mount_table.specs.Names.{parts}
+use Rattle.gopass_base.specs.Parts.{parts}
 use Rattle.mount_table.specs.Prefixes.{folder_parts, IsProperPrefix, Holds}
 use Rattle.mount_table.specs.Mounts.{IsTable, IsMountOf}
-use Rattle.mount_table.specs.MountOf.{begins, holds, last_that_holds, mount_of}
+use Rattle.mount_table.specs.MountOf.{is_proper_prefix, holds, last_that_holds, mount_of}
 use Rattle.mount_table.specs.declared.mounts.Row.{Row}
 use Rattle.mount_table.proofs.TableLemmas.{root_holds}
 use Rattle.mount_table.proofs.MountLemmas.{IsLast, last_here, last_stays, mount_of as mount_by_last}
 
-pub begins-says : (ps qs : List Text) → begins ps qs ≡ true → IsProperPrefix ps qs
+pub begins-says : (ps qs : List Text) → is_proper_prefix ps qs ≡ true → IsProperPrefix ps qs
 begins-says ps [] e = absurd (cc)
 begins-says [] (q ∷ qs) e = (q, qs, refl)
 begins-says (p ∷ ps) (q ∷ qs) e =
-    let tests = and_parts (bytes_eq p q) (begins ps qs) e in
+    let tests = and_parts (bytes_eq p q) (is_proper_prefix ps qs) e in
     let (next, rest, more) = begins-says ps qs tests.1 in
     let same : p ≡ q = (bytes_eq-Decides p q).0 tests.0 in
     (next, rest, λ i. sym same i ∷ more i)
 
-pub begins-tells : (ps rest : List Text) (next : Text) → begins ps (ps ++ next ∷ rest) ≡ true
+pub begins-tells : (ps rest : List Text) (next : Text) → is_proper_prefix ps (ps ++ next ∷ rest) ≡ true
 begins-tells [] rest next = refl
-begins-tells (p ∷ ps) rest next = ap (λ b. b && begins ps (ps ++ next ∷ rest)) ((bytes_eq-Decides p p).1 refl) ∙ begins-tells ps rest next
+begins-tells (p ∷ ps) rest next = ap (λ b. b && is_proper_prefix ps (ps ++ next ∷ rest)) ((bytes_eq-Decides p p).1 refl) ∙ begins-tells ps rest next
 
 pub holds-says : (folder name : Text) → holds folder name ≡ true → Holds folder name
 holds-says folder name e = begins-says (folder_parts folder) (parts name) e
 
 pub holds-tells : (folder name : Text) → Holds folder name → holds folder name ≡ true
-holds-tells folder name (next, rest, whole) = ap (begins (folder_parts folder)) whole ∙ begins-tells (folder_parts folder) rest next
+holds-tells folder name (next, rest, whole) = ap (is_proper_prefix (folder_parts folder)) whole ∙ begins-tells (folder_parts folder) rest next
 
 pub record IsRun (rows done rest : List Row) (n : ℕ) : Type 0 where
   pub whole : rows ≡ done ++ rest

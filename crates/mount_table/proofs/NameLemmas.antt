@@ -3,7 +3,8 @@ use Rattle.std.proofs.Common.{◌≡◌, ℕ, ◌+◌, ◌-◌, ◌<◌, ◌≤�
 use Rattle.std.proofs.lemmas.Bool.Decides.{nat_tests}
 use Rattle.std.proofs.lemmas.List.{get_or-take}
 use Rattle.std.proofs.lemmas.List.Elements.{All-from_get_or}
-use Rattle.mount_table.specs.Names.{parts, folders, IsName, IsNamePart, IsSealedName}
+use Rattle.gopass_base.specs.Parts.{parts, IsSealedName}
+use Rattle.mount_table.specs.Names.{folders, IsName, IsNamePart}
 use Rattle.mount_table.specs.NameFaults.{is_folder, part_at, Fails, IsGood, AreGood, IsFault}
 use Rattle.mount_table.specs.declared.name.NameKind.{NameKind}
 use Rattle.mount_table.specs.declared.name.NameKind.TheVariants.{Empty, Dots, Control, LongPart, LongName, ManyParts, FolderGpg}

@@ -10,7 +10,7 @@ use Rattle.std.specs.List.{join_with_byte}
 use Rattle.std.proofs.lemmas.List.Splits.{join_with_byte-slice_split}
 use Rattle.std.proofs.lemmas.List.{append-nil}
 use Rattle.gopass_base.specs.Text.{Text}
-use Rattle.mount_table.specs.Names.{parts}
+use Rattle.gopass_base.specs.Parts.{parts}
 use Rattle.mount_table.specs.Prefixes.{folder_parts, IsPrefix}
 use Rattle.mount_table.specs.Mounts.{IsBelow}
 use Rattle.mount_table.proofs.PartLemmas.{parts_fill}

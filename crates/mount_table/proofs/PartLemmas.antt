@@ -2,7 +2,7 @@
 use Rattle.std.proofs.Common.{◌≡◌, ℕ, ◌+◌, ◌-◌, ◌<◌, ◌&&◌, not, List, [], ◌∷◌, length, get_or, drop, zero, suc, cond, eqb, Bool, true, false, subst, refl, ap, sym, ◌∙◌, arith, length-drop}
 use Rattle.std.specs.List.{onto_first}
 use Rattle.std.proofs.lemmas.List.{at_drop_more, get_or_default}
-use Rattle.mount_table.specs.Names.{parts}
+use Rattle.gopass_base.specs.Parts.{parts}
 use Rattle.std.proofs.lemmas.Bool.Decides.{nat_tests}
 use Rattle.mount_table.specs.NameFaults.{span, start_of, is_folder, part_at, Fails, IsGood, IsGoodAt}
 use Rattle.mount_table.specs.declared.name.NameKind.{NameKind}

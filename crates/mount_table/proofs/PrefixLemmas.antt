@@ -4,10 +4,10 @@ use Rattle.std.specs.List.{join_with_byte}
 use Rattle.std.proofs.lemmas.List.{append-nil, append_cancel_left}
 use Rattle.std.proofs.lemmas.List.Splits.{join_with_byte-slice_split}
 use Rattle.gopass_base.specs.Text.{Text}
-use Rattle.mount_table.specs.Names.{parts}
+use Rattle.gopass_base.specs.Parts.{parts}
 use Rattle.mount_table.specs.Prefixes.{folder_parts, IsPrefix}
 use Rattle.mount_table.proofs.PartLemmas.{parts_fill}
-use Rattle.mount_table.proofs.JoinLemmas.{parts_join}
+use Rattle.gopass_base.proofs.JoinLemmas.{parts_join}
 use Rattle.mount_table.proofs.FolderLemmas.{joined}
 
 pub by_bytes : (outer inner : Text) (qs : List Text) → parts inner ≡ parts outer ++ qs → (inner ≡ outer) ⊎ ((more : Text) × (inner ≡ outer ++ 47 ∷ more))

@@ -5,11 +5,12 @@ use Rattle.std.proofs.lemmas.Str.{IsCharBoundary-start, IsCharBoundary-after_asc
 use Rattle.std.proofs.lemmas.List.{take_at, drop_at, get_or_at, get_or-append-add, append_assoc}
 use Rattle.std.proofs.lemmas.Bool.Decides.{nat_tests}
 use Rattle.gopass_base.specs.Text.{Text}
-use Rattle.mount_table.specs.Names.{parts, IsName}
+use Rattle.gopass_base.specs.Parts.{parts}
+use Rattle.mount_table.specs.Names.{IsName}
 use Rattle.mount_table.specs.NameFaults.{span, is_folder, part_at, IsGood, IsGoodAt}
 use Rattle.mount_table.specs.Prefixes.{Holds, rest_start}
 use Rattle.mount_table.proofs.PartLemmas.{parts_fill}
-use Rattle.mount_table.proofs.JoinLemmas.{parts_join}
+use Rattle.gopass_base.proofs.JoinLemmas.{parts_join}
 use Rattle.mount_table.proofs.NameLemmas.{name_of, good_of}
 use Rattle.mount_table.proofs.FolderLemmas.{bytes_by_holds}
 

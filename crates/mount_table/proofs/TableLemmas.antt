@@ -11,7 +11,7 @@ use Rattle.std.proofs.lemmas.Str.{is_utf8-from_IsUtf8, IsUtf8-nil}
 use Rattle.gopass_base.specs.Text.{Text}
 use Rattle.mount_table.specs.Prefixes.{folder_parts, IsPrefix, Holds, Nest}
 use Rattle.mount_table.specs.Folders.{IsFolder}
-use Rattle.mount_table.specs.Paths.{IsDirPath}
+use Rattle.gopass_base.specs.Paths.{IsDirPath}
 use Rattle.mount_table.specs.Mounts.{IsBelow, IsRow, IsBefore, no_row, row_at, root_of, IsTable, new_row, HasAliasAt, LacksAlias, IsFirstNest, IsApart}
 use Rattle.mount_table.specs.declared.mounts.Row.{Row}
 use Rattle.mount_table.proofs.FolderNames.{root_folder}

@@ -2,7 +2,7 @@
 use Rattle.std.specs.Prelude.{ℕ, ◌+◌, ◌==◌, Bool, true, false, not, ◌&&◌, List, [], ◌∷◌, length, slice_index, codes, bytes_eq, nat_eq, nat_le, nat_lt, Option, Some, None, if◌then◌else◌}
 use Rattle.std.specs.List.{list_all, ends_with}
 use Rattle.gopass_base.specs.Text.{Text}
-use Rattle.mount_table.specs.Names.{parts}
+use Rattle.gopass_base.specs.Parts.{parts}
 use Rattle.mount_table.specs.Folders.{without_slash}
 use Rattle.mount_table.specs.declared.name.NameKind.{NameKind}
 use Rattle.mount_table.specs.declared.name.NameKind.TheVariants.{Empty, Dots, Control, LongPart, LongName, ManyParts, FolderGpg}

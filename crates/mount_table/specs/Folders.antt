@@ -1,7 +1,8 @@
 -- Folders of secrets are texts of parts, as names are; the root folder has none.
 use Rattle.std.specs.Prelude.{◌==◌, ◌-◌, ◌≤◌, false, length, take, slice_index, All, if◌then◌else◌}
 use Rattle.gopass_base.specs.Text.{Text}
-use Rattle.mount_table.specs.Names.{IsSealedName, IsNamePart}
+use Rattle.gopass_base.specs.Parts.{IsSealedName}
+use Rattle.mount_table.specs.Names.{IsNamePart}
 use Rattle.mount_table.specs.Prefixes.{folder_parts}
 use Rattle.mount_table.specs.NameFaults.{IsFault}
 use Rattle.mount_table.specs.declared.name.BadName.{BadName}

@@ -3,7 +3,6 @@ pub mod NameFaults
 pub mod Prefixes
 pub mod Folders
 pub mod FaultOf
-pub mod Paths
 pub mod Mounts
 pub mod MountOf
 pub mod MountChanges

@@ -1,19 +1,19 @@
 -- The mount of a name, computed row by row.
 use Rattle.std.specs.Prelude.{ℕ, ◌+◌, Bool, true, false, ◌&&◌, List, [], ◌∷◌, bytes_eq, if◌then◌else◌}
 use Rattle.gopass_base.specs.Text.{Text}
-use Rattle.mount_table.specs.Names.{parts}
+use Rattle.gopass_base.specs.Parts.{parts}
 use Rattle.mount_table.specs.Prefixes.{folder_parts}
 use Rattle.mount_table.specs.declared.mounts.Row.{Row}
 
 -- whether ps is how qs begins, and qs has more
-abbrev pub begins : List Text → List Text → Bool
-begins ps [] = false
-begins [] (q ∷ qs) = true
-begins (p ∷ ps) (q ∷ qs) = bytes_eq p q && begins ps qs
+abbrev pub is_proper_prefix : List Text → List Text → Bool
+is_proper_prefix ps [] = false
+is_proper_prefix [] (q ∷ qs) = true
+is_proper_prefix (p ∷ ps) (q ∷ qs) = bytes_eq p q && is_proper_prefix ps qs
 
 -- whether the secret lies in the folder, or in one below it
 abbrev pub holds : Text → Text → Bool
-holds folder name = begins (folder_parts folder) (parts name)
+holds folder name = is_proper_prefix (folder_parts folder) (parts name)
 
 -- the last of these rows whose alias holds the name, where the first of them has the number `at`; or else `last`
 abbrev pub last_that_holds : List Row → Text → (at last : ℕ) → ℕ

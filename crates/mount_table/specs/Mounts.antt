@@ -8,7 +8,7 @@ use Rattle.std.specs.Cmp.Lexicographic.{slice_cmp}
 use Rattle.gopass_base.specs.Text.{Text}
 use Rattle.mount_table.specs.Prefixes.{folder_parts, IsPrefix, Holds, Nest, rest_start}
 use Rattle.mount_table.specs.Folders.{IsFolder}
-use Rattle.mount_table.specs.Paths.{IsDirPath, file_of}
+use Rattle.gopass_base.specs.Paths.{IsDirPath, file_of}
 use Rattle.mount_table.specs.declared.mounts.Row.{Row}
 
 -- a comes before b in the order of bytes

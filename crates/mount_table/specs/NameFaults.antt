@@ -1,7 +1,8 @@
 -- Why a text is no name, and where.
 use Rattle.std.specs.Prelude.{◌≡◌, ◌==◌, ℕ, ◌+◌, ◌<◌, ◌≤◌, Bool, true, ◌&&◌, not, List, [], ◌∷◌, length, take, slice_index_or, IsTrue, All}
 use Rattle.gopass_base.specs.Text.{Text, IsPrintable}
-use Rattle.mount_table.specs.Names.{parts, IsHidden, IsSealedName, IsNamePart}
+use Rattle.gopass_base.specs.Parts.{parts, IsHidden, IsSealedName}
+use Rattle.mount_table.specs.Names.{IsNamePart}
 use Rattle.mount_table.specs.declared.name.NameKind.{NameKind}
 use Rattle.mount_table.specs.declared.name.NameKind.TheVariants.{Empty, Dots, Control, LongPart, LongName, ManyParts, FolderGpg}
 use Rattle.mount_table.specs.declared.name.BadName.{BadName}

@@ -1,7 +1,7 @@
 -- What lies in a folder or a directory, by parts.
 use Rattle.std.specs.Prelude.{◌≡◌, ◌⊎◌, ℕ, List, [], ◌∷◌, ◌++◌, length}
 use Rattle.gopass_base.specs.Text.{Text}
-use Rattle.mount_table.specs.Names.{parts}
+use Rattle.gopass_base.specs.Parts.{parts}
 use Rattle.mount_table.specs.NameFaults.{start_of}
 
 -- the parts of a folder between the slashes; the root folder, whose text is empty, has none

@@ -1,11 +1,6 @@
 //! A folder of secrets, as `mail/work`.
 
-ghost use Rattle.std.specs.Prelude.{◌==◌, ◌≡◌, ◌≤◌, ◌↔◌, [], length, IsTrue, IsOk, IfOk, OnOk, Err, MatchOption, false};
-ghost use Rattle.std.specs.Ordering.{nat_cmp, as_partial_cmp};
-ghost use Rattle.std.specs.Cmp.{partial_order_from_own_ties};
-ghost use Rattle.std.specs.Cmp.Lexicographic.{pointwise, slice_cmp};
-ghost use Rattle.std.specs.Cmp.Rules.{comparing};
-ghost use Rattle.std.proofs.Common.{rules};
+ghost use Rattle.std.specs.Prelude.{◌≡◌, ◌≤◌, ◌↔◌, [], length, IsTrue, IsOk, IfOk, OnOk, Err, MatchOption, false};
 ghost use Rattle.std.specs.Str.{is_utf8};
 ghost use Rattle.gopass_base.specs.Text.{Text};
 ghost use Rattle.mount_table.specs.NameFaults.{IsFault};
@@ -15,28 +10,28 @@ ghost use Rattle.mount_table.specs.declared.name.BadName.{BadName};
 
 use crate::name::{BadName, Name, NameFault, NameKind, fault_in};
 use crate::part::is_prefix;
-use gopass_base::NoMemory;
+use gopass_base::{NoMemory, Utf8};
 use std::alloc::Global;
-use std::cmp::Ordering;
 use std::marker::Model;
 
 /// A folder of secrets, which contracts see as the bytes of its text. The root folder's text is
 /// empty.
-#[derive(Debug, Drop)]
+#[derive(Debug, Clone, Drop, PartialEq, Eq, PartialOrd, Ord)]
 pub struct Folder {
-    text: String,
+    text: Utf8,
 }
 
 impl Model for Folder {
-    ghost use Rattle.std.specs.Prelude.{string_bytes};
     ghost use Rattle.gopass_base.specs.Text.{Text};
     ghost use Rattle.mount_table.specs.Folders.{IsFolder};
 
     ghost Value = { Text };
 
-    ghost view = { λ folder. string_bytes folder.text };
+    ghost view = { λ folder. folder.text };
 
-    ghost invariant = { λ folder. IsFolder (string_bytes folder.text) };
+    ghost inverse = { λ text. record { text = text } };
+
+    ghost invariant = { λ folder. IsFolder folder.text };
 }
 
 impl Folder {
@@ -67,7 +62,7 @@ impl Folder {
         ensures { result ≡ [] }
     {
         Folder {
-            text: String::new(alloc),
+            text: Utf8::empty(alloc),
         }
     }
 
@@ -83,7 +78,7 @@ impl Folder {
         match folder_fault(text) {
             Some(bad) => Err(NameFault::Bad(bad)),
             None => Ok(Folder {
-                text: String::from_str(alloc, text)?,
+                text: Utf8::of(alloc, text)?,
             }),
         }
     }
@@ -93,7 +88,7 @@ impl Folder {
         ensures text { result.now ≡ self.now }
         ensures good { IsFolder self.now }
     {
-        &self.text
+        self.text.text()
     }
 
     /// The same folder once more.
@@ -102,7 +97,7 @@ impl Folder {
         ensures good { OnOk result (IsTrue (is_utf8 self.now) × IsFolder self.now) }
     {
         Ok(Folder {
-            text: String::from_str(alloc, &self.text)?,
+            text: Utf8::of(alloc, self.text())?,
         })
     }
 
@@ -130,45 +125,6 @@ impl Folder {
             return true;
         }
         is_prefix(self.text().as_bytes(), other.text().as_bytes())
-    }
-}
-
-impl PartialEq for Folder {
-    ghost eq = { pointwise ◌==◌ };
-
-    ghost laws = { Prim.search (comparing, rules) };
-
-    fn eq(&self, other: &Folder) -> bool {
-        self.text() == other.text()
-    }
-}
-
-impl Eq for Folder {
-    ghost laws = { Prim.search (comparing, rules) };
-}
-
-/// By the bytes of their texts.
-impl Ord for Folder {
-    ghost cmp = { slice_cmp nat_cmp };
-
-    ghost total = { Prim.search (comparing, rules) };
-
-    ghost matches_partial_cmp = { Prim.search (comparing, rules) };
-
-    ghost matches_eq = { Prim.search (comparing, rules) };
-
-    fn cmp(&self, other: &Folder) -> Ordering {
-        self.text().cmp(other.text())
-    }
-}
-
-impl PartialOrd for Folder {
-    ghost partial_cmp = { as_partial_cmp (slice_cmp nat_cmp) };
-
-    ghost laws = { partial_order_from_own_ties (Prim.search (comparing, rules)) (Prim.search (comparing, rules)) };
-
-    fn partial_cmp(&self, other: &Folder) -> Option<Ordering> {
-        Some(self.cmp(other))
     }
 }
 

@@ -7,17 +7,13 @@ mod mounts;
 mod mounts_text;
 mod name;
 mod part;
-mod path;
-mod service;
 
 pub use faults::{faults_of_folders, faults_of_names};
 pub use folder::Folder;
+pub use gopass_base::{DirPath, FilePath, NoMemory, PathFault, ServiceFile, parts_of_texts};
 pub use mounts::{AddFault, Mounts, NotMounted, Place, Row, one_mount, one_text};
 pub use mounts_text::MountsFault;
 pub use name::{BadName, Name, NameFault, NameKind};
-pub use part::parts_of_texts;
-pub use path::{DirPath, FilePath, PathFault};
-pub use service::ServiceFile;
 
 #[cfg(test)]
 mod tests;

@@ -14,14 +14,14 @@ ghost use Rattle.mount_table.specs.declared.mounts.AddFault.TheVariants.{NoMemor
 use crate::folder::Folder;
 use crate::mounts_text::{MountsFault, rows_of, text_of_rows};
 use crate::name::Name;
-use crate::path::{DirPath, FilePath};
-use gopass_base::NoMemory;
+use crate::part::nest;
+use gopass_base::{DirPath, FilePath, NoMemory, copies};
 use std::alloc::{AllocFailed, Global};
 use std::marker::Model;
 
 /// A directory of the disk that is mounted under an alias, and whether its changes are recorded
 /// with git.
-#[derive(Debug, Drop)]
+#[derive(Debug, Clone, Drop)]
 pub struct Row {
     pub alias: Folder,
     pub dir: DirPath,
@@ -121,7 +121,7 @@ impl Mounts {
     pub fn copy(&self) -> Result<Mounts, NoMemory>
         ensures { IfOk result (λ mounts. mounts ≡ self.now) }
     {
-        let rows = copies_of(*self.rows.allocator(), &self.rows)?;
+        let rows = copies(*self.rows.allocator(), &self.rows)?;
         Ok(Mounts { rows })
     }
 
@@ -162,7 +162,7 @@ impl Mounts {
         let alloc = *self.rows.allocator();
         let row = &self.rows[self.resolve(name).row];
         let rest = name.below(alloc, &row.alias)?;
-        row.dir.file_of(alloc, &rest)
+        rest.file_in(alloc, &row.dir)
     }
 
     /// Adds a mount, where git is off. The first that applies of these is the answer, and nothing
@@ -268,7 +268,7 @@ fn row_of(rows: &[Row], alias: &Folder) -> Option<usize>
 fn first_nest(rows: &[Row], dir: &DirPath) -> Option<usize>
     ensures { MatchOption result (IsApart rows.now dir.now) (IsFirstNest rows.now dir.now) }
 {
-    rows.iter().position(|row| row.dir.nests(dir))
+    rows.iter().position(|row| nest(&row.dir, dir))
 }
 
 /// How many rows stand before the first whose alias comes behind this one.
@@ -281,24 +281,4 @@ fn rows_below(rows: &[Row], alias: &Folder) -> usize
         Some(row) => row,
         None => rows.len(),
     }
-}
-
-fn copy_row(alloc: Global, row: &Row) -> Result<Row, NoMemory>
-    ensures { IfOk result (λ copy. copy ≡ row.now) }
-{
-    Ok(Row {
-        alias: row.alias.copy(alloc)?,
-        dir: row.dir.copy(alloc)?,
-        git: row.git,
-    })
-}
-
-fn copies_of(alloc: Global, rows: &[Row]) -> Result<Vec<Row>, NoMemory>
-    ensures { IfOk result (λ copies. copies.items ≡ rows.now) }
-{
-    let mut copies = Vec::new(alloc);
-    for row in rows {
-        copies.push(copy_row(alloc, row)?)?;
-    }
-    Ok(copies)
 }

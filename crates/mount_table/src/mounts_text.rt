@@ -4,18 +4,18 @@ ghost use Rattle.std.specs.Prelude.{◌≡◌, ◌≢◌, ◌↔◌, ◌<◌, �
 ghost use Rattle.std.specs.Str.{is_utf8};
 ghost use Rattle.gopass_base.specs.Lines.{Lacks};
 ghost use Rattle.mount_table.specs.Folders.{IsFolder};
-ghost use Rattle.mount_table.specs.Paths.{IsDirPath};
+ghost use Rattle.gopass_base.specs.Paths.{IsDirPath};
 ghost use Rattle.mount_table.specs.Mounts.{IsRow, IsBefore, IsTable, row_at};
 ghost use Rattle.mount_table.specs.MountsText.{flag_of, line_of, table_text, CanFollow, IsFirstBad};
 ghost use Rattle.mount_table.specs.declared.mounts.Row.{Row};
-ghost use Rattle.mount_table.specs.declared.mounts_text.MountsFault.TheVariants.{NoMemory};
+ghost use Rattle.mount_table.specs.declared.mounts_text.MountsFault.TheVariants.{NoMemory as no_memory};
 
 use crate::folder::Folder;
 use crate::mounts::Row;
 use crate::name::NameFault;
-use crate::path::{DirPath, PathFault};
-use gopass_base::{NoMemory, as_text, cut};
-use std::alloc::{AllocError, AllocFailed, Global};
+use crate::part::nest;
+use gopass_base::{DirPath, NoMemory, PathFault, as_text, cut, push, push_line};
+use std::alloc::Global;
 
 /// Why bytes are not taken as the text of mounts.
 #[derive(Clone, Copy, Debug, PartialEq, Eq)]
@@ -25,10 +25,10 @@ pub enum MountsFault {
     NoMemory,
 }
 
-impl<T: Drop> From<AllocFailed<T>> for MountsFault {
-    ghost from_gives = { λ _ e. e ≡ NoMemory };
+impl From<NoMemory> for MountsFault {
+    ghost from_gives = { λ _ e. e ≡ no_memory };
 
-    fn from(_: AllocFailed<T>) -> Self {
+    fn from(_: NoMemory) -> Self {
         MountsFault::NoMemory
     }
 }
@@ -41,7 +41,8 @@ pub(crate) fn rows_of(alloc: Global, bytes: &[u8], root: &DirPath) -> Result<Vec
     let mut rows = Vec::new(alloc);
     let mut rest = bytes;
     while let Some((line, after)) = cut(rest, b'\n') {
-        rows.push(next_row(alloc, root, &rows, line)?)?;
+        let row = next_row(alloc, root, &rows, line)?;
+        push(&mut rows, row)?;
         rest = after;
     }
     if !rest.is_empty() {
@@ -151,7 +152,7 @@ fn stands_behind(row: &Row, rows: &[Row]) -> bool
 fn is_before(earlier: &Row, row: &Row) -> bool
     ensures { IsTrue result ↔ IsBefore earlier.now row.now }
 {
-    earlier.alias < row.alias && !earlier.dir.nests(&row.dir)
+    earlier.alias < row.alias && !nest(&earlier.dir, &row.dir)
 }
 
 /// The text of these rows.
@@ -165,7 +166,7 @@ pub(crate) fn text_of_rows(alloc: Global, rows: &[Row]) -> Result<Vec<u8>, NoMem
     Ok(out)
 }
 
-fn push_row(out: &mut Vec<u8>, row: &Row) -> Result<(), AllocError>
+fn push_row(out: &mut Vec<u8>, row: &Row) -> Result<(), NoMemory>
     ensures { OnOk result (out.new.items ≡ out.old.items ++ (line_of row.now ++ 10 ∷ [])) }
 {
     let flag = if row.git { "git" } else { "plain" };
@@ -173,6 +174,5 @@ fn push_row(out: &mut Vec<u8>, row: &Row) -> Result<(), AllocError>
     out.extend_from_slice(b"\t")?;
     out.extend_from_slice(row.dir.text().as_bytes())?;
     out.extend_from_slice(b"\t")?;
-    out.extend_from_slice(flag.as_bytes())?;
-    out.extend_from_slice(b"\n")
+    push_line(out, flag.as_bytes())
 }

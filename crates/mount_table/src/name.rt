@@ -1,22 +1,17 @@
 //! The full name of a secret, as `mail/work/me`.
 
-ghost use Rattle.std.specs.Prelude.{◌==◌, ◌≡◌, ◌↔◌, ◌≤◌, ◌&&◌, not, length, drop, IsTrue, IsOk, IfOk, Err, MatchOption};
-ghost use Rattle.std.specs.Ordering.{nat_cmp, as_partial_cmp};
-ghost use Rattle.std.specs.Cmp.{partial_order_from_own_ties};
-ghost use Rattle.std.specs.Cmp.Lexicographic.{pointwise, slice_cmp};
-ghost use Rattle.std.specs.Cmp.Rules.{comparing};
-ghost use Rattle.std.proofs.Common.{rules};
-ghost use Rattle.mount_table.specs.Names.{parts, IsName};
+ghost use Rattle.std.specs.Prelude.{◌≡◌, ◌↔◌, ◌≤◌, ◌&&◌, not, length, drop, IsTrue, IsOk, IfOk, Err, MatchOption};
+ghost use Rattle.gopass_base.specs.Parts.{parts};
+ghost use Rattle.mount_table.specs.Names.{IsName};
+ghost use Rattle.gopass_base.specs.Paths.{file_of};
 ghost use Rattle.mount_table.specs.Prefixes.{Holds, rest_start};
 ghost use Rattle.mount_table.specs.NameFaults.{Fails, IsGood, AreGood, IsFirstFault, IsFault, IsNameFault};
 ghost use Rattle.mount_table.specs.declared.name.BadName.{BadName};
-ghost use Rattle.mount_table.specs.declared.name.NameFault.TheVariants.{NoMemory};
+ghost use Rattle.mount_table.specs.declared.name.NameFault.TheVariants.{NoMemory as no_memory};
 
 use crate::folder::{Folder, is_above};
-use crate::part::{is_hidden, is_sealed_name};
-use gopass_base::{NoMemory, is_printable};
-use std::alloc::{AllocError, Global};
-use std::cmp::Ordering;
+use gopass_base::{DirPath, FilePath, NoMemory, Utf8, is_hidden, is_printable, is_sealed_name};
+use std::alloc::Global;
 use std::marker::Model;
 
 /// What is wrong with a name.
@@ -52,30 +47,31 @@ pub enum NameFault {
     NoMemory,
 }
 
-impl From<AllocError> for NameFault {
-    ghost from_gives = { λ _ e. e ≡ NoMemory };
+impl From<NoMemory> for NameFault {
+    ghost from_gives = { λ _ e. e ≡ no_memory };
 
-    fn from(_: AllocError) -> Self {
+    fn from(_: NoMemory) -> Self {
         NameFault::NoMemory
     }
 }
 
 /// The name of a secret, which contracts see as the bytes of its text.
-#[derive(Debug, Drop)]
+#[derive(Debug, Clone, Drop, PartialEq, Eq, PartialOrd, Ord)]
 pub struct Name {
-    text: String,
+    text: Utf8,
 }
 
 impl Model for Name {
-    ghost use Rattle.std.specs.Prelude.{string_bytes};
     ghost use Rattle.gopass_base.specs.Text.{Text};
     ghost use Rattle.mount_table.specs.Names.{IsName};
 
     ghost Value = { Text };
 
-    ghost view = { λ name. string_bytes name.text };
+    ghost view = { λ name. name.text };
 
-    ghost invariant = { λ name. IsName (string_bytes name.text) };
+    ghost inverse = { λ text. record { text = text } };
+
+    ghost invariant = { λ name. IsName name.text };
 }
 
 impl Name {
@@ -92,7 +88,7 @@ impl Name {
         match fault_in(text, true) {
             Some(bad) => Err(NameFault::Bad(bad)),
             None => Ok(Name {
-                text: String::from_str(alloc, text)?,
+                text: Utf8::of(alloc, text)?,
             }),
         }
     }
@@ -102,7 +98,7 @@ impl Name {
         ensures text { result.now ≡ self.now }
         ensures good { IsName self.now }
     {
-        &self.text
+        self.text.text()
     }
 
     /// The name without the parts of a folder that holds it.
@@ -111,8 +107,18 @@ impl Name {
         ensures { IfOk result (λ rest. rest ≡ drop (rest_start folder.now self.now) self.now) }
     {
         Ok(Name {
-            text: String::from_str(alloc, &self.text()[folder.start_below()..])?,
+            text: Utf8::of(alloc, &self.text()[folder.start_below()..])?,
         })
+    }
+
+    /// The file of the secret whose name below the mount of the directory this is: the directory's
+    /// text, `/`, the name and `.gpg`. Each directory and name have one, so only memory can be wanting.
+    pub fn file_in(&self, alloc: Global, dir: &DirPath) -> Result<FilePath, NoMemory>
+        ensures { IfOk result (λ path. path ≡ file_of dir.now self.now) }
+    {
+        let mut rest = String::from_str(alloc, self.text())?;
+        rest.push_str(".gpg")?;
+        dir.file_at(alloc, &rest)
     }
 
     /// Whether the other name lies in the folder that has the text of this one.
@@ -127,47 +133,8 @@ impl Name {
         ensures { IfOk result (λ copy. copy ≡ self.now) }
     {
         Ok(Name {
-            text: String::from_str(alloc, &self.text)?,
+            text: Utf8::of(alloc, self.text())?,
         })
-    }
-}
-
-impl PartialEq for Name {
-    ghost eq = { pointwise ◌==◌ };
-
-    ghost laws = { Prim.search (comparing, rules) };
-
-    fn eq(&self, other: &Name) -> bool {
-        self.text() == other.text()
-    }
-}
-
-impl Eq for Name {
-    ghost laws = { Prim.search (comparing, rules) };
-}
-
-/// By the bytes of their texts.
-impl Ord for Name {
-    ghost cmp = { slice_cmp nat_cmp };
-
-    ghost total = { Prim.search (comparing, rules) };
-
-    ghost matches_partial_cmp = { Prim.search (comparing, rules) };
-
-    ghost matches_eq = { Prim.search (comparing, rules) };
-
-    fn cmp(&self, other: &Name) -> Ordering {
-        self.text().cmp(other.text())
-    }
-}
-
-impl PartialOrd for Name {
-    ghost partial_cmp = { as_partial_cmp (slice_cmp nat_cmp) };
-
-    ghost laws = { partial_order_from_own_ties (Prim.search (comparing, rules)) (Prim.search (comparing, rules)) };
-
-    fn partial_cmp(&self, other: &Name) -> Option<Ordering> {
-        Some(self.cmp(other))
     }
 }
 

@@ -59,72 +59,6 @@ fn a_name_holds_the_names_below_it(rt: HostRuntime) -> Result<(), Fail> {
     Ok(())
 }
 
-const BAD: Option<PathFault> = Some(PathFault::Bad);
-
-#[test]
-fn paths_read_within_their_limits(rt: HostRuntime) -> Result<(), Fail> {
-    let dir = DirPath::read(rt.alloc(), "base/work")?;
-    for (text, of_file, of_dir, within) in [
-        ("base", None, None, None),
-        ("a/...", None, BAD, None),
-        ("a/.git/b", None, BAD, None),
-        ("a/x.gpg", None, BAD, None),
-        ("", BAD, BAD, BAD),
-        (".", BAD, BAD, BAD),
-        ("a/..", BAD, BAD, BAD),
-        ("a/../b", BAD, BAD, BAD),
-        ("a/", BAD, BAD, BAD),
-        ("/a", BAD, BAD, BAD),
-        ("a\nb", BAD, BAD, BAD),
-    ] {
-        assert_eq!(rt;
-            FilePath::read(rt.alloc(), text).err(),
-            of_file,
-            "at {text}"
-        );
-        assert_eq!(rt; DirPath::read(rt.alloc(), text).err(), of_dir, "at {text}");
-        assert_eq!(rt; dir.join(rt.alloc(), text).err(), within, "at {text}");
-    }
-    for (lengths, of_file, of_dir, within) in [
-        ([1; 12].as_slice(), None, None, None),
-        ([1; 13].as_slice(), None, BAD, None),
-        ([1; 30].as_slice(), None, BAD, None),
-        ([1; 32].as_slice(), None, BAD, BAD),
-        ([1; 33].as_slice(), BAD, BAD, BAD),
-        (&[255], None, None, None),
-        (&[256], BAD, BAD, BAD),
-        (&[249, 250], None, None, None),
-        (&[250, 250], None, BAD, None),
-        (&[250, 250, 250, 237], None, BAD, None),
-        (&[250, 250, 250, 247], None, BAD, BAD),
-        (&[250, 250, 250, 248], BAD, BAD, BAD),
-    ] {
-        let text = text_of(rt.alloc(), lengths)?;
-        assert_eq!(rt;
-            FilePath::read(rt.alloc(), &text).err(),
-            of_file,
-            "at {text}"
-        );
-        assert_eq!(rt; DirPath::read(rt.alloc(), &text).err(), of_dir, "at {text}");
-        assert_eq!(rt; dir.join(rt.alloc(), &text).err(), within, "at {text}");
-    }
-    Ok(())
-}
-
-#[test]
-fn paths_are_in_the_order_of_their_bytes(rt: HostRuntime) -> Result<(), Fail> {
-    let dir = DirPath::read(rt.alloc(), "a")?;
-    let inner = FilePath::read(rt.alloc(), "a/b")?;
-    let next = FilePath::read(rt.alloc(), "a0")?;
-    assert!(rt; dir.join(rt.alloc(), "b")? == inner);
-    assert!(rt; inner != next);
-    assert!(rt; inner < next);
-    let beside = DirPath::read(rt.alloc(), "a0")?;
-    assert!(rt; dir != beside);
-    assert!(rt; dir < beside);
-    Ok(())
-}
-
 #[test]
 fn a_directory_names_its_files(rt: HostRuntime) -> Result<(), Fail> {
     let root = DirPath::read(rt.alloc(), "root")?;
@@ -133,14 +67,7 @@ fn a_directory_names_its_files(rt: HostRuntime) -> Result<(), Fail> {
         ("y/x.gpg", "root/y/x.gpg.gpg"),
     ] {
         let name = Name::read(rt.alloc(), name)?;
-        assert_eq!(rt; root.file_of(rt.alloc(), &name)?.text(), file);
-    }
-    for (file, path) in [
-        (ServiceFile::Journal, "root/.gopass-journal"),
-        (ServiceFile::Mounts, "root/.gopass-mounts"),
-        (ServiceFile::Pending, "root/.gopass-pending"),
-    ] {
-        assert_eq!(rt; root.service_file(rt.alloc(), file)?.text(), path);
+        assert_eq!(rt; name.file_in(rt.alloc(), &root)?.text(), file);
     }
     Ok(())
 }

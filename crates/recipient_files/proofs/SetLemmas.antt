@@ -15,9 +15,9 @@ use Rattle.std.proofs.lemmas.Bool.{or_cases, or_right, cases_Bool, false_from_ne
 use Rattle.std.proofs.lemmas.List.Elements.{All-head, All-tail, All-cons}
 use Rattle.std.proofs.lemmas.List.Kept.{IsStrictlySortedBy-filter}
 use Rattle.std.proofs.lemmas.Slice.Eq.{bytes_eq-Decides}
-use Rattle.gopass_base.specs.Text.{Text}
+use Rattle.gopass_base.specs.Text.{Text, is_among}
 use Rattle.gopass_base.specs.Order.{IsRising, IsSetOf}
-use Rattle.recipient_files.specs.Ids.{Ids, IsId, IsRecipients, is_among, without}
+use Rattle.recipient_files.specs.Ids.{Ids, IsId, IsRecipients, without}
 
 -- the test tells whether an id is there
 among_has : (ids : Ids) (id : Text) → is_among ids id ≡ true → Contains ids id

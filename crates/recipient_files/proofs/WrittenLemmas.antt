@@ -6,10 +6,10 @@ use Rattle.std.proofs.lemmas.Bool.{ne_eqb}
 use Rattle.std.proofs.lemmas.List.{append_assoc, append-nil}
 use Rattle.std.proofs.lemmas.List.Elements.{All-head, All-tail}
 use Rattle.gopass_base.specs.Text.{Text}
-use Rattle.gopass_base.specs.Lines.{pieces_of}
+use Rattle.gopass_base.specs.Lines.{pieces_of, front_or}
 use Rattle.gopass_base.proofs.LineLemmas.{cut_none, line_first}
 use Rattle.recipient_files.specs.Ids.{Ids, IsId, IsRecipients}
-use Rattle.recipient_files.specs.RuleText.{IsRule, bad_at, front_or, trim_start, trim_end, left_of, text_fault, room_fault, line_fault, with_id, with_line, bad_from, ids_from, ids_of, rule_text}
+use Rattle.recipient_files.specs.RuleText.{IsRule, bad_at, trim_start, trim_end, left_of, text_fault, room_fault, line_fault, with_id, with_line, bad_from, ids_from, ids_of, rule_text}
 use Rattle.recipient_files.specs.declared.rule.RuleKind.TheVariants.{TooMany}
 use Rattle.recipient_files.proofs.IdLemmas.{one_line_id}
 use Rattle.recipient_files.proofs.TrimLemmas.{trim_done}

@@ -1,6 +1,5 @@
 -- Ids of recipients, and sets of them.
-use Rattle.std.specs.Prelude.{◌≢◌, ℕ, ◌-◌, ◌≤◌, Bool, not, bytes_eq, filter, List, length, slice_index, All}
-use Rattle.std.specs.List.{list_any}
+use Rattle.std.specs.Prelude.{◌≢◌, ℕ, ◌-◌, ◌≤◌, not, bytes_eq, filter, List, length, slice_index, All}
 use Rattle.std.specs.Str.{IsUtf8}
 use Rattle.gopass_base.specs.Text.{Text, IsPrintable}
 use Rattle.gopass_base.specs.Order.{IsRising}
@@ -21,10 +20,6 @@ pub record IsId (text : Text) : Type 0 where
 
 abbrev pub Ids : Type 0
 Ids = List Text
-
--- whether this is one of the ids
-abbrev pub is_among : Ids → Text → Bool
-is_among ids id = list_any (λ one. bytes_eq one id) ids
 
 -- the ids without this one
 abbrev pub without : Ids → Text → Ids

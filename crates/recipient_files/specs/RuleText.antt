@@ -3,23 +3,15 @@ use Rattle.std.specs.Prelude.{◌≡◌, ◌==◌, ℕ, ◌+◌, not, List, [], 
 use Rattle.std.specs.Option.{option_or}
 use Rattle.std.specs.List.{flat_map}
 use Rattle.std.specs.Str.{is_utf8}
-use Rattle.gopass_base.specs.Text.{Text}
-use Rattle.gopass_base.specs.Lines.{cut_at, pieces_of}
+use Rattle.gopass_base.specs.Text.{Text, is_among}
+use Rattle.gopass_base.specs.Lines.{before_byte, pieces_of}
 use Rattle.gopass_base.specs.Order.{IsSetOf}
-use Rattle.recipient_files.specs.Ids.{Ids, is_among}
+use Rattle.recipient_files.specs.Ids.{Ids}
 use Rattle.recipient_files.specs.IdText.{is_id}
 use Rattle.recipient_files.specs.declared.rule.RuleKind.{RuleKind}
 use Rattle.recipient_files.specs.declared.rule.RuleKind.TheVariants.{NotText, BadId, TooMany, None as NoId}
 
 -- ---- what is left of a line
-
-abbrev pub front_or : Option (Text × Text) → Text → Text
-front_or None line = line
-front_or (Some cut) line = cut.0
-
--- a line up to its first `#`
-abbrev pub before_hash : Text → Text
-before_hash line = front_or (cut_at 35 line) line
 
 -- without the spaces in front
 abbrev pub trim_start : Text → Text
@@ -36,9 +28,9 @@ abbrev pub trim_end : Text → Text
 trim_end [] = []
 trim_end (b ∷ bs) = unless_space b (trim_end bs)
 
--- a line without its comment, and then without the spaces at its ends
+-- a line without its comment, which begins at `#`, and then without the spaces at its ends
 abbrev pub left_of : Text → Text
-left_of line = trim_end (trim_start (before_hash line))
+left_of line = trim_end (trim_start (before_byte 35 line))
 
 -- ---- a line behind the ids of the lines before it
 

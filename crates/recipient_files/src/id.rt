@@ -1,17 +1,11 @@
 //! The id of a recipient.
 
-ghost use Rattle.std.specs.Prelude.{◌==◌, ◌≡◌, ◌≢◌, ◌↔◌, ◌-◌, ◌≤◌, length, slice_index, IsTrue, IsOk, IfOk, Err, All};
-ghost use Rattle.std.specs.Ordering.{nat_cmp, as_partial_cmp};
-ghost use Rattle.std.specs.Cmp.{partial_order_from_own_ties};
-ghost use Rattle.std.specs.Cmp.Lexicographic.{pointwise, slice_cmp};
-ghost use Rattle.std.specs.Cmp.Rules.{comparing};
-ghost use Rattle.std.proofs.Common.{rules};
+ghost use Rattle.std.specs.Prelude.{◌≡◌, ◌≢◌, ◌↔◌, ◌-◌, ◌≤◌, length, slice_index, IsTrue, IsOk, IfOk, Err, All};
 ghost use Rattle.recipient_files.specs.Ids.{IsId, CanBegin};
 ghost use Rattle.recipient_files.specs.declared.id.IdFault.TheVariants.{NoMemory};
 
-use gopass_base::{NoMemory as NoRoom, is_printable};
-use std::alloc::{AllocError, Global};
-use std::cmp::Ordering;
+use gopass_base::{NoMemory as NoRoom, Utf8, is_printable};
+use std::alloc::Global;
 use std::marker::Model;
 
 /// Why a text is not taken as an id.
@@ -21,30 +15,31 @@ pub enum IdFault {
     NoMemory,
 }
 
-impl From<AllocError> for IdFault {
+impl From<NoRoom> for IdFault {
     ghost from_gives = { λ _ e. e ≡ NoMemory };
 
-    fn from(_: AllocError) -> Self {
+    fn from(_: NoRoom) -> Self {
         IdFault::NoMemory
     }
 }
 
 /// The id of a recipient, which contracts see as the bytes of its text.
-#[derive(Debug, Drop)]
+#[derive(Debug, Clone, Drop, PartialEq, Eq, PartialOrd, Ord)]
 pub struct Id {
-    text: String,
+    text: Utf8,
 }
 
 impl Model for Id {
-    ghost use Rattle.std.specs.Prelude.{string_bytes};
     ghost use Rattle.gopass_base.specs.Text.{Text};
     ghost use Rattle.recipient_files.specs.Ids.{IsId};
 
     ghost Value = { Text };
 
-    ghost view = { λ id. string_bytes id.text };
+    ghost view = { λ id. id.text };
 
-    ghost invariant = { λ id. IsId (string_bytes id.text) };
+    ghost inverse = { λ text. record { text = text } };
+
+    ghost invariant = { λ id. IsId id.text };
 }
 
 impl Id {
@@ -59,7 +54,7 @@ impl Id {
             return Err(IdFault::Bad);
         }
         Ok(Id {
-            text: String::from_str(alloc, text)?,
+            text: Utf8::of(alloc, text)?,
         })
     }
 
@@ -68,7 +63,7 @@ impl Id {
         ensures text { result.now ≡ self.now }
         ensures good { IsId self.now }
     {
-        &self.text
+        self.text.text()
     }
 
     /// An equal id of its own.
@@ -77,47 +72,8 @@ impl Id {
         ensures good { IfOk result IsId }
     {
         Ok(Id {
-            text: String::from_str(alloc, &self.text)?,
+            text: Utf8::of(alloc, self.text())?,
         })
-    }
-}
-
-impl PartialEq for Id {
-    ghost eq = { pointwise ◌==◌ };
-
-    ghost laws = { Prim.search (comparing, rules) };
-
-    fn eq(&self, other: &Id) -> bool {
-        self.text() == other.text()
-    }
-}
-
-impl Eq for Id {
-    ghost laws = { Prim.search (comparing, rules) };
-}
-
-/// By the bytes of their texts.
-impl Ord for Id {
-    ghost cmp = { slice_cmp nat_cmp };
-
-    ghost total = { Prim.search (comparing, rules) };
-
-    ghost matches_partial_cmp = { Prim.search (comparing, rules) };
-
-    ghost matches_eq = { Prim.search (comparing, rules) };
-
-    fn cmp(&self, other: &Id) -> Ordering {
-        self.text().cmp(other.text())
-    }
-}
-
-impl PartialOrd for Id {
-    ghost partial_cmp = { as_partial_cmp (slice_cmp nat_cmp) };
-
-    ghost laws = { partial_order_from_own_ties (Prim.search (comparing, rules)) (Prim.search (comparing, rules)) };
-
-    fn partial_cmp(&self, other: &Id) -> Option<Ordering> {
-        Some(self.cmp(other))
     }
 }
 

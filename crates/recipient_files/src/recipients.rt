@@ -1,9 +1,9 @@
 //! A set of recipients.
 
-ghost use Rattle.std.specs.Prelude.{◌≡◌, ◌≢◌, ◌↔◌, ◌<◌, ◌≤◌, [], ◌∷◌, ◌++◌, length, IsTrue, IsOk, IfOk, Err, All, Contains, MatchResult};
-ghost use Rattle.gopass_base.specs.Text.{Text};
+ghost use Rattle.std.specs.Prelude.{◌≡◌, ◌≢◌, ◌↔◌, ◌<◌, ◌≤◌, [], ◌∷◌, ◌++◌, length, IsTrue, IsOk, IfOk, Err, All, Contains};
+ghost use Rattle.gopass_base.specs.Text.{Text, is_among};
 ghost use Rattle.gopass_base.specs.Order.{IsSetOf};
-ghost use Rattle.recipient_files.specs.Ids.{Ids, IsId, IsRecipients, is_among, without};
+ghost use Rattle.recipient_files.specs.Ids.{Ids, IsId, IsRecipients, without};
 ghost use Rattle.recipient_files.specs.IdText.{is_id};
 ghost use Rattle.recipient_files.specs.Changes.{AddsId, RemovesId};
 ghost use Rattle.recipient_files.specs.RuleText.{IsRule, ids_of, first_bad_line, rule_text};
@@ -13,8 +13,8 @@ ghost use Rattle.recipient_files.specs.declared.recipients.IdAddFault.TheVariant
 
 use crate::rule::read_lines;
 use crate::{Id, RuleFault, RuleKind};
-use gopass_base::{NoMemory as NoRoom, in_order};
-use std::alloc::{AllocFailed, Global};
+use gopass_base::{NoMemory as NoRoom, in_order, push_line};
+use std::alloc::{AllocError, Global};
 use std::marker::Model;
 
 pub(crate) const MOST_IDS: usize = 64;
@@ -51,14 +51,6 @@ impl From<NoRoom> for IdAddFault {
     ghost from_gives = { λ _ e. e ≡ no_room };
 
     fn from(_: NoRoom) -> Self {
-        IdAddFault::NoMemory
-    }
-}
-
-impl<T: Drop> From<AllocFailed<T>> for IdAddFault {
-    ghost from_gives = { λ _ e. e ≡ no_room };
-
-    fn from(_: AllocFailed<T>) -> Self {
         IdAddFault::NoMemory
     }
 }
@@ -158,8 +150,7 @@ impl Recipients {
     pub fn copy(&self) -> Result<Recipients, NoRoom>
         ensures { IfOk result (λ set. set ≡ self.now) }
     {
-        let ids = copies_of(*self.ids.allocator(), &self.ids)?;
-        Ok(Recipients { ids })
+        Ok(self.clone()?)
     }
 
     /// Adds an id. The set stays as it is where it has the id, or else 64 others.
@@ -189,6 +180,16 @@ impl Recipients {
         }
         take_out(&mut self.ids, id);
         Ok(())
+    }
+}
+
+impl Clone for Recipients {
+    ghost is_clone = { λ set clone. clone ≡ set };
+
+    fn clone(&self) -> Result<Recipients, AllocError> {
+        Ok(Recipients {
+            ids: self.ids.clone()?,
+        })
     }
 }
 
@@ -231,8 +232,7 @@ fn text_of(alloc: Global, ids: &[Id]) -> Result<Vec<u8>, NoRoom>
 {
     let mut bytes = Vec::new(alloc);
     for id in ids {
-        bytes.extend_from_slice(id.text().as_bytes())?;
-        bytes.push(b'\n')?;
+        push_line(&mut bytes, id.text().as_bytes())?;
     }
     Ok(bytes)
 }
@@ -247,10 +247,9 @@ fn set_of(ids: Vec<Id>) -> Vec<Id>
 }
 
 /// Copies of the ids, and one of one more.
-fn with_one(alloc: Global, ids: &[Id], id: &Id) -> Result<Vec<Id>, IdAddFault>
+fn with_one(alloc: Global, ids: &[Id], id: &Id) -> Result<Vec<Id>, NoRoom>
     ensures ids { IfOk result (λ all. all.items ≡ ids.now ++ id.now ∷ []) }
     ensures each { IfOk result (λ all. All IsId all.items) }
-    ensures fails { MatchResult result (λ _. Unit {0}) (λ e. e ≡ no_room) }
 {
     let mut all = copies_of(alloc, ids)?;
     all.push(id.copy(alloc)?)?;

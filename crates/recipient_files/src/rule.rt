@@ -1,9 +1,9 @@
 //! The text of a rule file, which names the recipients of what is below its folder.
 
 ghost use Rattle.std.specs.Prelude.{◌≡◌, [], option_map};
-ghost use Rattle.gopass_base.specs.Lines.{pieces_of};
+ghost use Rattle.gopass_base.specs.Lines.{before_byte, pieces_of};
 ghost use Rattle.recipient_files.specs.Ids.{IsId};
-ghost use Rattle.recipient_files.specs.RuleText.{before_hash, trim_start, trim_end, left_of, text_fault, room_fault, line_fault, with_id, with_line, bad_at, bad_from, ids_from};
+ghost use Rattle.recipient_files.specs.RuleText.{trim_start, trim_end, left_of, text_fault, room_fault, line_fault, with_id, with_line, bad_at, bad_from, ids_from};
 ghost use Rattle.recipient_files.specs.RuleReads.{ReadsRuleText, ReadsIdLine, AreSomeIds};
 ghost use Rattle.recipient_files.specs.declared.rule.LineFault.TheVariants.{NoMemory};
 
@@ -127,11 +127,11 @@ fn read_id(alloc: Global, bytes: &[u8]) -> Result<Id, LineFault>
 fn left_of(line: &[u8]) -> &[u8]
     ensures { result.now ≡ left_of line.now }
 {
-    trim_end(trim_start(before_hash(line)))
+    trim_end(trim_start(without_comment(line)))
 }
 
-fn before_hash(line: &[u8]) -> &[u8]
-    ensures { result.now ≡ before_hash line.now }
+fn without_comment(line: &[u8]) -> &[u8]
+    ensures { result.now ≡ before_byte 35 line.now }
 {
     match cut(line, b'#') {
         Some((front, _)) => front,

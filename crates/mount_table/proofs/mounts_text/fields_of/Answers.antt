@@ -1,6 +1,6 @@
 use Rattle.std.proofs.Common.{◌∷◌, ◌++◌}
 use Rattle.mount_table.specs.MountsText.{flag_of}
-use Rattle.mount_table.proofs.CleanLemmas.{no_cut}
+use Rattle.gopass_base.proofs.CleanLemmas.{no_cut}
 use Rattle.mount_table.proofs.LineLemmas.{no_second}
 use Rattle.mount_table.proofs.mounts_text.fields_of.Goals as goal
 

@@ -3,8 +3,8 @@ use Rattle.std.specs.Prelude.{Err}
 use Rattle.std.specs.Str.{is_utf8}
 use Rattle.std.proofs.lemmas.Result.{err_from_is_err_and}
 use Rattle.mount_table.specs.Folders.{IsFolder}
-use Rattle.mount_table.specs.Paths.{IsDirPath}
-use Rattle.mount_table.specs.declared.path.PathFault.TheVariants.{Bad}
+use Rattle.gopass_base.specs.Paths.{IsDirPath}
+use Rattle.gopass_base.specs.declared.path.PathFault.TheVariants.{Bad}
 use Rattle.mount_table.proofs.LineLemmas.{fields_are}
 use Rattle.mount_table.proofs.mounts_text.row_of_line.Goals as goal
 

@@ -3,7 +3,7 @@ use Rattle.std.proofs.lemmas.Iterator.Splits.{YieldsList-from_str_split}
 use Rattle.std.proofs.lemmas.Iterator.Consumers.{YieldsList-turn, YieldsList-end}
 use Rattle.std.proofs.lemmas.List.{length_push}
 use borrow.Author.Count.{below_more}
-use Rattle.mount_table.specs.Names.{parts}
+use Rattle.gopass_base.specs.Parts.{parts}
 use Rattle.mount_table.specs.NameFaults.{IsGoodAt}
 use Rattle.mount_table.proofs.PartLemmas.{parts_fill, turn_of, fails_at, good_at}
 use Rattle.mount_table.proofs.name.first_bad_part.Goals as goal

@@ -1,5 +1,5 @@
 use Rattle.std.proofs.Common.{◌≡◌, ◌+◌, ◌<◌, ℕ, length, drop}
-use Rattle.mount_table.specs.Names.{parts}
+use Rattle.gopass_base.specs.Parts.{parts}
 use Rattle.mount_table.specs.NameFaults.{span, start_of, IsGoodAt}
 use Rattle.mount_table.proofs.name.first_bad_part.Given as goal
 

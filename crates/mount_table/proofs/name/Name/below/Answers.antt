@@ -16,7 +16,7 @@ range_from-requires c =
 pub invariant_of-result : goal.invariant_of-result
 invariant_of-result c =
     let start : c.start_below.result ≡ rest_start c.args.folder.now c.args.self.now = c.start_below.ensures c.args.self.now c.requires in
-    rw c.in_ok-from_str.ensures.ok
+    rw c.in_ok-of.ensures
     (rw c.range_from.ensures.value
     (subst IsName (sym ((λ i. drop (start i) (c.text.ensures.text i))))
     (rest_name c.args.folder.now c.args.self.now c.text.ensures.good c.requires)))

@@ -1,7 +1,7 @@
 //! The files that a store keeps beside the secrets.
 
 ghost use Rattle.std.specs.Prelude.{◌≡◌};
-ghost use Rattle.mount_table.specs.Paths.{service_text};
+ghost use Rattle.gopass_base.specs.Paths.{service_text};
 
 /// A file that a store keeps for itself, beside the files of the secrets.
 #[derive(Clone, Copy, Debug, PartialEq, Eq)]

@@ -2,9 +2,9 @@ use Rattle.std.proofs.Common.{lit<, rules}
 use Rattle.std.proofs.lemmas.Iterator.Splits.{YieldsList-from_str_split}
 use Rattle.std.proofs.lemmas.Iterator.{cases_from_any}
 use borrow.Author.Tests.{tests}
-use Rattle.mount_table.specs.Names.{parts, IsSealedName}
-use Rattle.mount_table.proofs.EachPart.{none_is}
-use Rattle.mount_table.proofs.path.has_no_sealed_part.Goals as goal
+use Rattle.gopass_base.specs.Parts.{parts, IsSealedName}
+use Rattle.gopass_base.proofs.EachPart.{none_is}
+use Rattle.gopass_base.proofs.path.has_no_sealed_part.Goals as goal
 
 pub returns : goal.returns
 returns c =

@@ -1,14 +1,13 @@
--- Folders and directories have no control byte, so no tab and no line feed; and what a text says that is cut at such a byte.
-use Rattle.std.proofs.Common.{◌≡◌, ◌≢◌, ℕ, ◌+◌, ◌<◌, List, [], ◌∷◌, ◌++◌, length, cond, eqb, Bool, true, false, All, refl, sym, subst, arith}
+-- Paths have no control byte, so no tab and no line feed; and what a text says that is cut at such a byte.
+use Rattle.std.proofs.Common.{◌≡◌, ◌≢◌, ℕ, ◌<◌, List, [], ◌∷◌, ◌++◌, length, cond, eqb, Bool, true, false, All, refl, sym, subst, arith}
 use Rattle.std.specs.List.{onto_first}
 use Rattle.std.proofs.lemmas.List.Elements.{All-nil, All-cons, All-head, All-tail}
 use Rattle.std.proofs.lemmas.Bool.Decides.{Decides-eqb}
 use Rattle.gopass_base.specs.Text.{Text, IsPrintable}
 use Rattle.gopass_base.specs.Lines.{Lacks}
-use Rattle.mount_table.specs.Names.{parts}
-use Rattle.mount_table.specs.Folders.{IsFolder}
-use Rattle.mount_table.specs.Paths.{IsDirPath}
-use Rattle.mount_table.proofs.PartLemmas.{parts_fill}
+use Rattle.gopass_base.specs.Parts.{parts}
+use Rattle.gopass_base.specs.Paths.{IsDirPath}
+use Rattle.gopass_base.proofs.JoinLemmas.{parts_some}
 
 first_byte : (b : ℕ) (cut : Bool) (ps : List Text) → eqb b 47 ≡ cut → 0 < length ps → All (λ part. All IsPrintable part) (cond cut ([] ∷ ps) (onto_first b ps)) → IsPrintable b × All (λ part. All IsPrintable part) ps
 first_byte b cut [] e some h = absurd (omega arith)
@@ -20,12 +19,8 @@ first_byte b false (p ∷ ps) e some h =
 pub whole_text : (text : Text) → All (λ part. All IsPrintable part) (parts text) → All IsPrintable text
 whole_text [] h = All-nil IsPrintable
 whole_text (b ∷ text) h =
-    let here = first_byte b (eqb b 47) (parts text) refl (parts_fill text).0 h in
+    let here = first_byte b (eqb b 47) (parts text) refl (parts_some text) h in
     All-cons IsPrintable b text here.0 (whole_text text here.1)
-
-pub clean_folder : (text : Text) → IsFolder text → All IsPrintable text
-clean_folder [] folder = All-nil IsPrintable
-clean_folder (b ∷ text) folder = whole_text (b ∷ text) (λ k d lt. (folder.each k d lt).printable)
 
 pub clean_dir : (text : Text) → IsDirPath text → All IsPrintable text
 clean_dir text dir = whole_text text (λ k d lt. (dir.path.each k d lt).printable)

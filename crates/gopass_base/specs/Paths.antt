@@ -1,9 +1,9 @@
 -- Paths of the disk are texts of parts, with a slash between them.
 use Rattle.std.specs.Prelude.{◌≢◌, ◌≤◌, ◌∷◌, ◌++◌, length, codes, All}
 use Rattle.gopass_base.specs.Text.{Text, IsPrintable}
-use Rattle.mount_table.specs.Names.{parts, IsHidden, IsSealedName}
-use Rattle.mount_table.specs.declared.service.ServiceFile.{ServiceFile}
-use Rattle.mount_table.specs.declared.service.ServiceFile.TheVariants.{Journal, Mounts, Pending}
+use Rattle.gopass_base.specs.Parts.{parts, IsHidden, IsSealedName}
+use Rattle.gopass_base.specs.declared.service.ServiceFile.{ServiceFile}
+use Rattle.gopass_base.specs.declared.service.ServiceFile.TheVariants.{Journal, Mounts, Pending}
 
 -- a part of a path: 1 to 255 printable bytes, and neither `.` nor `..`
 pub record IsPathPart (part : Text) : Type 0 where

@@ -4,7 +4,7 @@ use Rattle.std.specs.List.{join_with_byte}
 use Rattle.std.proofs.lemmas.List.Elements.{All-head, All-tail}
 use Rattle.std.proofs.lemmas.List.Splits.{join_with_byte-slice_split, slice_split_none, slice_split_at}
 use Rattle.gopass_base.specs.Text.{Text}
-use Rattle.mount_table.specs.Names.{parts}
+use Rattle.gopass_base.specs.Parts.{parts}
 
 abbrev IsWhole : Text → Type 0
 IsWhole part = All (λ b. b ≢ 47) part

@@ -1,5 +1,5 @@
-use Rattle.mount_table.proofs.TextLemmas.{joined_again, cut_again}
-use Rattle.mount_table.proofs.part.parts_of_texts.Goals as goal
+use Rattle.gopass_base.proofs.TextLemmas.{joined_again, cut_again}
+use Rattle.gopass_base.proofs.part.parts_of_texts.Goals as goal
 
 pub returns-clause-text : goal.returns-clause-text
 returns-clause-text c = joined_again

@@ -1,7 +1,7 @@
 use Rattle.std.proofs.Common.{lit<}
 use Rattle.std.proofs.lemmas.Iterator.Splits.{YieldsList-from_str_split}
 use Rattle.std.proofs.lemmas.Iterator.Consumers.{count_from_yields_List}
-use Rattle.mount_table.proofs.part.part_count.Goals as goal
+use Rattle.gopass_base.proofs.part.part_count.Goals as goal
 
 pub returns : goal.returns
 returns c = count_from_yields_List c.split.result _ c.count.ensures.ran (YieldsList-from_str_split 47 c.args.text.now (lit< tt) (cc) (cc) (cc))

@@ -2,10 +2,10 @@ use Rattle.std.proofs.Common.{lit<, rules}
 use Rattle.std.proofs.lemmas.Iterator.Splits.{YieldsList-from_str_split}
 use Rattle.std.proofs.lemmas.Iterator.{cases_from_all}
 use borrow.Author.Tests.{tests}
-use Rattle.mount_table.specs.Names.{parts}
-use Rattle.mount_table.specs.Paths.{IsPathPart}
-use Rattle.mount_table.proofs.EachPart.{each_is}
-use Rattle.mount_table.proofs.path.has_path_parts.Goals as goal
+use Rattle.gopass_base.specs.Parts.{parts}
+use Rattle.gopass_base.specs.Paths.{IsPathPart}
+use Rattle.gopass_base.proofs.EachPart.{each_is}
+use Rattle.gopass_base.proofs.path.has_path_parts.Goals as goal
 
 pub returns : goal.returns
 returns c =

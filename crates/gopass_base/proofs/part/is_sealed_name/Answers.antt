@@ -1,6 +1,6 @@
 use Rattle.std.proofs.Common.{codes, sym, ◌∙◌}
 use Rattle.std.proofs.lemmas.Str.Pattern.{ends_text}
-use Rattle.mount_table.proofs.part.is_sealed_name.Goals as goal
+use Rattle.gopass_base.proofs.part.is_sealed_name.Goals as goal
 
 pub returns : goal.returns
 returns c =

@@ -1,23 +1,16 @@
 //! Paths of the disk.
 
-ghost use Rattle.std.specs.Prelude.{◌==◌, ◌≡◌, ◌↔◌, IsTrue, IsOk, IfOk, OnOk, All, Err};
-ghost use Rattle.std.specs.Ordering.{nat_cmp, as_partial_cmp};
-ghost use Rattle.std.specs.Cmp.{partial_order_from_own_ties};
-ghost use Rattle.std.specs.Cmp.Lexicographic.{pointwise, slice_cmp};
-ghost use Rattle.std.specs.Cmp.Rules.{comparing};
-ghost use Rattle.std.proofs.Common.{rules};
+ghost use Rattle.std.specs.Prelude.{◌≡◌, ◌↔◌, IsTrue, IsOk, IfOk, OnOk, All, Err, string_bytes};
 ghost use Rattle.std.specs.Str.{is_utf8};
-ghost use Rattle.mount_table.specs.Names.{parts, IsHidden, IsSealedName};
-ghost use Rattle.mount_table.specs.Paths.{IsPathPart, IsFilePath, IsDirPath, path_in, file_of, service_text};
-ghost use Rattle.mount_table.specs.Prefixes.{Nest};
-ghost use Rattle.mount_table.specs.declared.path.PathFault.TheVariants.{NoMemory};
+ghost use Rattle.gopass_base.specs.Parts.{parts, IsHidden, IsSealedName};
+ghost use Rattle.gopass_base.specs.Paths.{IsPathPart, IsFilePath, IsDirPath, path_in, service_text};
+ghost use Rattle.gopass_base.specs.declared.path.PathFault.TheVariants.{NoMemory as no_memory};
 
-use crate::name::Name;
-use crate::part::{is_hidden, is_prefix, is_sealed_name, part_count};
+use crate::part::{is_hidden, is_sealed_name, part_count};
 use crate::service::ServiceFile;
-use gopass_base::{NoMemory, is_printable};
-use std::alloc::{AllocError, Global};
-use std::cmp::Ordering;
+use crate::text::is_printable;
+use crate::{NoMemory, Utf8};
+use std::alloc::Global;
 use std::marker::Model;
 
 /// Why a text is not taken as a path.
@@ -27,30 +20,31 @@ pub enum PathFault {
     NoMemory,
 }
 
-impl From<AllocError> for PathFault {
-    ghost from_gives = { λ _ e. e ≡ NoMemory };
+impl From<NoMemory> for PathFault {
+    ghost from_gives = { λ _ e. e ≡ no_memory };
 
-    fn from(_: AllocError) -> Self {
+    fn from(_: NoMemory) -> Self {
         PathFault::NoMemory
     }
 }
 
 /// The path of a file, which contracts see as the bytes of its text.
-#[derive(Debug, Drop)]
+#[derive(Debug, Clone, Drop, PartialEq, Eq, PartialOrd, Ord)]
 pub struct FilePath {
-    text: String,
+    text: Utf8,
 }
 
 impl Model for FilePath {
-    ghost use Rattle.std.specs.Prelude.{string_bytes};
     ghost use Rattle.gopass_base.specs.Text.{Text};
-    ghost use Rattle.mount_table.specs.Paths.{IsFilePath};
+    ghost use Rattle.gopass_base.specs.Paths.{IsFilePath};
 
     ghost Value = { Text };
 
-    ghost view = { λ path. string_bytes path.text };
+    ghost view = { λ path. path.text };
 
-    ghost invariant = { λ path. IsFilePath (string_bytes path.text) };
+    ghost inverse = { λ text. record { text = text } };
+
+    ghost invariant = { λ path. IsFilePath path.text };
 }
 
 impl FilePath {
@@ -65,7 +59,7 @@ impl FilePath {
             return Err(PathFault::Bad);
         }
         Ok(FilePath {
-            text: String::from_str(alloc, text)?,
+            text: Utf8::of(alloc, text)?,
         })
     }
 
@@ -74,7 +68,7 @@ impl FilePath {
         ensures text { result.now ≡ self.now }
         ensures good { IsFilePath self.now }
     {
-        &self.text
+        self.text.text()
     }
 
     /// The same path once more.
@@ -82,48 +76,19 @@ impl FilePath {
         ensures { IfOk result (λ copy. copy ≡ self.now) }
     {
         Ok(FilePath {
-            text: String::from_str(alloc, &self.text)?,
+            text: Utf8::of(alloc, self.text())?,
         })
     }
 }
 
-impl PartialEq for FilePath {
-    ghost eq = { pointwise ◌==◌ };
-
-    ghost laws = { Prim.search (comparing, rules) };
-
-    fn eq(&self, other: &FilePath) -> bool {
-        self.text() == other.text()
-    }
-}
-
-impl Eq for FilePath {
-    ghost laws = { Prim.search (comparing, rules) };
-}
-
-/// By the bytes of their texts.
-impl Ord for FilePath {
-    ghost cmp = { slice_cmp nat_cmp };
-
-    ghost total = { Prim.search (comparing, rules) };
-
-    ghost matches_partial_cmp = { Prim.search (comparing, rules) };
-
-    ghost matches_eq = { Prim.search (comparing, rules) };
-
-    fn cmp(&self, other: &FilePath) -> Ordering {
-        self.text().cmp(other.text())
-    }
-}
-
-impl PartialOrd for FilePath {
-    ghost partial_cmp = { as_partial_cmp (slice_cmp nat_cmp) };
-
-    ghost laws = { partial_order_from_own_ties (Prim.search (comparing, rules)) (Prim.search (comparing, rules)) };
-
-    fn partial_cmp(&self, other: &FilePath) -> Option<Ordering> {
-        Some(self.cmp(other))
-    }
+/// Both texts with a slash between them.
+fn joined(alloc: Global, dir: &str, rest: &str) -> Result<String, NoMemory>
+    ensures { IfOk result (λ text. string_bytes text ≡ path_in dir.now rest.now) }
+{
+    let mut text = String::from_str(alloc, dir)?;
+    text.push('/')?;
+    text.push_str(rest)?;
+    Ok(text)
 }
 
 fn is_path_part(part: &str) -> bool
@@ -145,21 +110,22 @@ fn is_file_path(text: &str) -> bool
 }
 
 /// The path of a directory, which contracts see as the bytes of its text.
-#[derive(Debug, Drop)]
+#[derive(Debug, Clone, Drop, PartialEq, Eq, PartialOrd, Ord)]
 pub struct DirPath {
-    text: String,
+    text: Utf8,
 }
 
 impl Model for DirPath {
-    ghost use Rattle.std.specs.Prelude.{string_bytes};
     ghost use Rattle.gopass_base.specs.Text.{Text};
-    ghost use Rattle.mount_table.specs.Paths.{IsDirPath};
+    ghost use Rattle.gopass_base.specs.Paths.{IsDirPath};
 
     ghost Value = { Text };
 
-    ghost view = { λ dir. string_bytes dir.text };
+    ghost view = { λ dir. dir.text };
 
-    ghost invariant = { λ dir. IsDirPath (string_bytes dir.text) };
+    ghost inverse = { λ text. record { text = text } };
+
+    ghost invariant = { λ dir. IsDirPath dir.text };
 }
 
 impl DirPath {
@@ -174,7 +140,7 @@ impl DirPath {
             return Err(PathFault::Bad);
         }
         Ok(DirPath {
-            text: String::from_str(alloc, text)?,
+            text: Utf8::of(alloc, text)?,
         })
     }
 
@@ -183,7 +149,7 @@ impl DirPath {
         ensures text { result.now ≡ self.now }
         ensures good { IsDirPath self.now }
     {
-        &self.text
+        self.text.text()
     }
 
     /// The same directory once more.
@@ -192,17 +158,8 @@ impl DirPath {
         ensures good { OnOk result (IsTrue (is_utf8 self.now) × IsDirPath self.now) }
     {
         Ok(DirPath {
-            text: String::from_str(alloc, &self.text)?,
+            text: Utf8::of(alloc, self.text())?,
         })
-    }
-
-    /// Whether one of the two directories is the other or lies in it.
-    pub(crate) fn nests(&self, other: &DirPath) -> bool
-        ensures { IsTrue result ↔ Nest self.now other.now }
-    {
-        let own = self.text().as_bytes();
-        let other = other.text().as_bytes();
-        is_prefix(own, other) || is_prefix(other, own)
     }
 
     /// The path of what lies in the directory: its text, `/` and the rest, read as a file's path.
@@ -212,20 +169,8 @@ impl DirPath {
         ensures bad { result ≡ Err PathFault.Bad → ¬ IsFilePath (path_in self.now rest.now) }
         ensures dir { IsDirPath self.now }
     {
-        let mut text = String::from_str(alloc, self.text())?;
-        text.push('/')?;
-        text.push_str(rest)?;
+        let text = joined(alloc, self.text(), rest)?;
         FilePath::read(alloc, &text)
-    }
-
-    /// The file of a secret in the directory, by the rest of its name: the directory's text, `/`,
-    /// the name and `.gpg`. Each directory and name have one, so only memory can be wanting.
-    pub fn file_of(&self, alloc: Global, name: &Name) -> Result<FilePath, NoMemory>
-        ensures { IfOk result (λ path. path ≡ file_of self.now name.now) }
-    {
-        let mut rest = String::from_str(alloc, name.text())?;
-        rest.push_str(".gpg")?;
-        self.file_at(alloc, &rest)
     }
 
     /// The path of a file that the store keeps for itself in the directory: the directory's text,
@@ -247,45 +192,6 @@ impl DirPath {
             Err(PathFault::NoMemory) => Err(NoMemory),
             Err(PathFault::Bad) => unreachable!(),
         }
-    }
-}
-
-impl PartialEq for DirPath {
-    ghost eq = { pointwise ◌==◌ };
-
-    ghost laws = { Prim.search (comparing, rules) };
-
-    fn eq(&self, other: &DirPath) -> bool {
-        self.text() == other.text()
-    }
-}
-
-impl Eq for DirPath {
-    ghost laws = { Prim.search (comparing, rules) };
-}
-
-/// By the bytes of their texts.
-impl Ord for DirPath {
-    ghost cmp = { slice_cmp nat_cmp };
-
-    ghost total = { Prim.search (comparing, rules) };
-
-    ghost matches_partial_cmp = { Prim.search (comparing, rules) };
-
-    ghost matches_eq = { Prim.search (comparing, rules) };
-
-    fn cmp(&self, other: &DirPath) -> Ordering {
-        self.text().cmp(other.text())
-    }
-}
-
-impl PartialOrd for DirPath {
-    ghost partial_cmp = { as_partial_cmp (slice_cmp nat_cmp) };
-
-    ghost laws = { partial_order_from_own_ties (Prim.search (comparing, rules)) (Prim.search (comparing, rules)) };
-
-    fn partial_cmp(&self, other: &DirPath) -> Option<Ordering> {
-        Some(self.cmp(other))
     }
 }
 
