@@ -1,6 +1,6 @@
 -- A file is put in its place.
 use Rattle.std.proofs.Common.{◌≡◌, ◌≢◌, ℕ, zero, suc, ◌+◌, Bool, true, false, T, cond, Some, ◌≤◌, ◌<◌, List, [], ◌∷◌, ◌++◌, length, get_or, set, take, drop, Vec, refl, sym, ap, subst, ◌∙◌, arith}
-use Rattle.std.specs.Ordering.{nat_cmp}
+use Rattle.std.specs.Ordering.{nat_cmp, is_eq, eq_by_cmp}
 use Rattle.std.specs.declared.cmp.Ordering.{Ordering}
 use Rattle.std.specs.declared.cmp.Ordering.TheVariants.{Less, Equal, Greater}
 use Rattle.std.specs.Cmp.{tied_itself}
@@ -9,7 +9,6 @@ use Rattle.std.specs.FinMap.Entries.{by_order, find-put, is_sorted-put}
 use Rattle.std.specs.FinMap.{nat_cmp-IsAntisymmetric, slice_cmp-IsAntisymmetric}
 use Rattle.std.proofs.lemmas.List.{map_push, take_more}
 use Rattle.gopass_base.specs.Text.{Text}
-use Rattle.std.specs.Ordering.{is_eq, eq_by_cmp}
 use Rattle.disk_model.specs.Entries.{Entries, entry_of, entries_of, files_of, with_entry, is_rising}
 
 abbrev order : Text → Text → Ordering

@@ -2,6 +2,6 @@ pub mod EntryLemmas
 pub mod ListingLemmas
 pub mod FileLemmas
 pub mod RunLemmas
-pub mod EventLemmas
+pub mod ActLemmas
 pub mod MemoryLemmas
 pub mod CrashLemmas

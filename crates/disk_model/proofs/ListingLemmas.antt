@@ -1,5 +1,5 @@
 -- What a listing has: the rest of a path behind a directory, and the paths of a list of files.
-use Rattle.std.proofs.Common.{◌≡◌, ◌≢◌, inl, inr, ℕ, ◌==◌, true, false, not, ◌||◌, T, List, [], ◌∷◌, ◌++◌, cond, map, Option, Some, None, Bor, if◌then◌else◌, bytes_eq, refl, ap, sym, ◌∙◌, subst, arith}
+use Rattle.std.proofs.Common.{◌≡◌, ◌≢◌, inl, inr, ℕ, ◌≤◌, ◌==◌, length, true, false, not, ◌||◌, T, List, [], ◌∷◌, ◌++◌, cond, map, Option, Some, None, Bor, if◌then◌else◌, bytes_eq, refl, ap, sym, ◌∙◌, subst, arith}
 use Rattle.std.specs.Prelude.{MatchOption, filter, Contains, All, codes}
 use Rattle.std.specs.List.{list_any, AllByRecursion}
 use Rattle.std.specs.List.Sorted.{IsStrictlySortedBy}
@@ -18,8 +18,9 @@ use Rattle.gopass_base.specs.Text.{Text}
 use Rattle.gopass_base.specs.Order.{IsRising}
 use Rattle.gopass_base.proofs.ListLemmas.{here, later, first_or}
 use Rattle.gopass_base.proofs.OrderLemmas.{both, less}
-use Rattle.mount_table.specs.Names.{parts}
-use Rattle.mount_table.specs.Paths.{path_in}
+use Rattle.gopass_base.specs.Parts.{parts}
+use Rattle.gopass_base.specs.Paths.{path_in}
+use Rattle.disk_model.specs.Files.{Files}
 use Rattle.disk_model.specs.Entries.{Entries, files_of, is_rising}
 use Rattle.disk_model.specs.Listing.{LiesIn, IsThere, IsListing, Lists, rest_in, has_git, is_plain, lies_in, paths_in, IsAtMost}
 use Rattle.disk_model.specs.declared.disk.Listed.{Listed}
@@ -177,3 +178,41 @@ listing_of dir es up = record {
 pub lists_of : (es : Entries) (dir : Text) (max : ℕ) (l : Listed) → is_rising es ≡ true → IsAtMost (paths_in dir es) max l → Lists (files_of es) dir max l
 lists_of es dir max (listed.All paths) up (is, few) = subst (IsListing (files_of es) dir) (sym is) (listing_of dir es up)
 lists_of es dir max listed.Many up more = (paths_in dir es, listing_of dir es up, more)
+
+-- ---- two listings
+
+not_below_itself : (a : Text) → slice_cmp nat_cmp a a ≡ Less → ⊥
+not_below_itself a h = (let e : Equal ≡ Less = sym (tied_itself nat_list_cmp_total a) ∙ h in cc)
+
+each_above : (x : Text) (xs : List Text) → AllByRecursion (λ y. slice_cmp nat_cmp x y ≡ Less) xs → (q : Text) → Contains xs q → slice_cmp nat_cmp x q ≡ Less
+each_above x [] all q (k, lt, is) = absurd (omega (arith, lt))
+each_above x (y ∷ xs) all q has = elim (first_or y xs q has) [
+  | inl same ↦ subst (λ (t : Text). slice_cmp nat_cmp x t ≡ Less) same all.0
+  | inr more ↦ each_above x xs all.1 q more
+]
+
+not_itself : (x : Text) (xs : List Text) → AllByRecursion (λ y. slice_cmp nat_cmp x y ≡ Less) xs → ¬ Contains xs x
+not_itself x xs all has = not_below_itself x (each_above x xs all x has)
+
+-- of two rising lists, one that has each text of the other is as long at least
+pub as_long : (xs ys : List Text) → IsRising xs → IsRising ys → ((q : Text) → Contains xs q → Contains ys q) → length xs ≤ length ys
+unfolding IsStrictlySortedBy
+as_long [] ys up upper has = omega arith
+as_long (x ∷ xs) [] up upper has = (let (k, lt, is) = has x (0, omega arith, refl) in absurd (omega (arith, lt)))
+as_long (x ∷ xs) (y ∷ ys) up upper has = elim (first_or y ys x (has x (0, omega arith, refl))) [
+  | inl same ↦ (let more = as_long xs ys up.1 upper.1 (λ q there. elim (first_or y ys q (has q (later x xs q there))) [
+    | inl again ↦ absurd (not_itself x xs up.0 (subst (Contains xs) (sym again ∙ same) there))
+    | inr behind ↦ behind
+  ]) in omega (arith, more))
+  | inr inside ↦ (let more = as_long (x ∷ xs) ys up upper.1 (λ q there. elim (first_or y ys q (has q there)) [
+    | inl again ↦ absurd (elim (first_or x xs q there) [
+      | inl same ↦ not_itself y ys upper.0 (subst (Contains ys) (same ∙ sym again) inside)
+      | inr after ↦ not_below_itself q (nat_list_cmp_total.trans q x q (subst (λ (t : Text). slice_cmp nat_cmp t x ≡ Less) again (each_above y ys upper.0 x inside)) (each_above x xs up.0 q after))
+    ])
+    | inr behind ↦ behind
+  ]) in omega (arith, more))
+]
+
+-- two listings of the same files are as long
+pub listing_long : (files : Files) (dir : Text) (a b : List Text) → IsListing files dir a → IsListing files dir b → length a ≤ length b
+listing_long files dir a b h k = as_long a b h.rising k.rising (λ q has. (k.each q).1 ((h.each q).0 has))

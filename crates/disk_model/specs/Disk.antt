@@ -1,5 +1,5 @@
 -- What a disk means at a moment, and from one moment to the next.
-use Rattle.std.specs.Prelude.{◌≡◌, ◌⊎◌, ℕ, ◌≤◌}
+use Rattle.std.specs.Prelude.{◌≡◌, ◌⊎◌, ℕ, ◌≤◌, Bool}
 use Rattle.disk_model.specs.Files.{Files}
 
 -- what a disk shows at a moment: its files, and the images, which are what a crash now may leave.
@@ -10,11 +10,14 @@ pub record View : Type 1 where
   pub moment : ℕ
   pub left_since : ℕ → Files → Type 0
 
--- a disk: whether it tells its content, what it shows, and how often a call failed
+-- a disk: whether it tells its content, what it shows, how often a call failed and how often it was asked, and whether
+-- the lock is had. Both counts stand at their last value
 pub record DiskMeaning (D : Type 0) : Type 1 where
   pub tells : Type 0
   pub view : D → View
   pub faults : D → ℕ
+  pub calls : D → ℕ
+  pub held : D → Bool
 
 -- what holds at every moment: the files are one of the images, each image is among what a crash since any moment up to
 -- now may have left, and since now that is nothing else

@@ -4,6 +4,6 @@ pub mod Runs
 pub mod Answers
 pub mod Entries
 pub mod Listing
-pub mod Events
+pub mod Acts
 pub mod Memory
 pub mod Crashes

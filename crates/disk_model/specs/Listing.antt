@@ -1,10 +1,10 @@
 -- What a listing of a directory has.
-use Rattle.std.specs.Prelude.{◌≡◌, ◌≢◌, ◌↔◌, ◌==◌, ℕ, ◌<◌, ◌≤◌, ⊤, Bool, false, not, bytes_eq, List, [], ◌∷◌, length, codes, map, filter, All, Contains, Option, None, Some, if◌then◌else◌}
+use Rattle.std.specs.Prelude.{◌≡◌, ◌≢◌, ◌↔◌, ◌==◌, ℕ, ◌-◌, ◌^◌, ◌<◌, ◌≤◌, Bool, false, not, bytes_eq, List, [], ◌∷◌, length, codes, map, filter, All, Contains, Option, None, Some, if◌then◌else◌}
 use Rattle.std.specs.List.{list_any}
 use Rattle.gopass_base.specs.Text.{Text}
 use Rattle.gopass_base.specs.Order.{IsRising}
-use Rattle.mount_table.specs.Names.{parts}
-use Rattle.mount_table.specs.Paths.{path_in}
+use Rattle.gopass_base.specs.Parts.{parts}
+use Rattle.gopass_base.specs.Paths.{path_in}
 use Rattle.disk_model.specs.Files.{Files}
 use Rattle.disk_model.specs.Entries.{Entries}
 use Rattle.disk_model.specs.declared.disk.Listed.{Listed}
@@ -30,10 +30,10 @@ abbrev pub Lists : Files → Text → ℕ → Listed → Type 0
 Lists files dir max (listed.All paths) = IsListing files dir paths.items
 Lists files dir max listed.Many = (paths : List Text) × IsListing files dir paths × (max < length paths)
 
--- no more paths are given than were asked for
+-- no more paths are given than were asked for, and there are never more than 2^64 - 1
 abbrev pub IsShort : ℕ → Listed → Type 0
 IsShort max (listed.All paths) = length paths.items ≤ max
-IsShort max listed.Many = ⊤
+IsShort max listed.Many = max < 2 ^ 64 - 1
 
 -- ---- the same of a list of files, computed
 

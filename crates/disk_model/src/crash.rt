@@ -2,14 +2,13 @@
 
 ghost use Rattle.std.specs.Prelude.{◌≡◌, IsTrue, IfOk, OnOk, if◌then◌else◌};
 ghost use Rattle.std.proofs.Math.Dec.{ltb};
+ghost use Rattle.disk_model.specs.Acts.{act_of, entries_made, before, log_of};
 ghost use Rattle.disk_model.specs.Entries.{entries_of, is_rising};
-ghost use Rattle.disk_model.specs.Events.{event_of, entries_made, before, log_of};
-ghost use Rattle.disk_model.specs.Crashes.{torn, left_of, replay_one, reading_of, picked};
+ghost use Rattle.disk_model.specs.Crashes.{torn, left_by, replay_one, reading_of, picked};
 
+use crate::act::{Act, apply};
 use crate::entries::{copy_files, put_file};
-use crate::event::{Event, apply};
-use gopass_base::NoMemory;
-use mount_table::FilePath;
+use gopass_base::{FilePath, NoMemory};
 use std::alloc::Global;
 
 /// Which of the steps since the last sync a crash leaves.
@@ -23,35 +22,35 @@ pub enum Pick {
     Torn,
 }
 
-/// Makes of the files what the event says, but of a write only the first half of its bytes.
-fn apply_torn(files: &mut Vec<(FilePath, Vec<u8>)>, event: &Event) -> Result<(), NoMemory>
+/// Makes of the files what the act says, but of a write only the first half of its bytes.
+fn apply_torn(files: &mut Vec<(FilePath, Vec<u8>)>, act: &Act) -> Result<(), NoMemory>
     requires { IsTrue (is_rising (entries_of files.old.items)) }
-    ensures { OnOk result (entries_of files.new.items ≡ entries_made (torn (event_of event.now)) (entries_of files.old.items)) }
+    ensures { OnOk result (entries_of files.new.items ≡ entries_made (torn (act_of act.now)) (entries_of files.old.items)) }
 {
-    if let Event::Write(path, bytes) = event {
+    if let Act::Write(path, bytes) = act {
         let alloc = *files.allocator();
         let half = bytes[..bytes.len() / 2].to_vec(alloc)?;
         return put_file(files, path.copy(alloc)?, half);
     }
-    apply(files, event)
+    apply(files, act)
 }
 
 /// Makes of what a crash leaves that which it leaves of one step more.
 fn apply_picked(
     left: &mut Vec<(FilePath, Vec<u8>)>,
-    event: &Event,
+    act: &Act,
     pick: Pick,
     is_odd: bool,
 ) -> Result<(), NoMemory>
     requires { IsTrue (is_rising (entries_of left.old.items)) }
-    ensures { OnOk result (entries_of left.new.items ≡ left_of pick is_odd (event_of event.now) (entries_of left.old.items)) }
+    ensures { OnOk result (entries_of left.new.items ≡ left_by pick is_odd (act_of act.now) (entries_of left.old.items)) }
 {
     match pick {
         Pick::None => Ok(()),
-        Pick::All => apply(left, event),
-        Pick::Even if is_odd => apply(left, event),
+        Pick::All => apply(left, act),
+        Pick::Even if is_odd => apply(left, act),
         Pick::Even => Ok(()),
-        Pick::Torn => apply_torn(left, event),
+        Pick::Torn => apply_torn(left, act),
     }
 }
 
@@ -64,47 +63,47 @@ struct Replay {
     is_odd: bool,
 }
 
-/// Reads one event more.
-fn read_on(reading: &mut Replay, event: &Event, pick: Pick) -> Result<(), NoMemory>
+/// Reads one act more.
+fn read_on(reading: &mut Replay, act: &Act, pick: Pick) -> Result<(), NoMemory>
     requires files { IsTrue (is_rising (entries_of reading.old.files.items)) }
     requires left { IsTrue (is_rising (entries_of reading.old.left.items)) }
-    ensures { OnOk result (reading_of reading.new ≡ replay_one pick (event_of event.now) (reading_of reading.old)) }
+    ensures { OnOk result (reading_of reading.new ≡ replay_one pick (act_of act.now) (reading_of reading.old)) }
 {
-    if let Event::Sync = event {
+    if let Act::Sync = act {
         let alloc = *reading.files.allocator();
         reading.left = copy_files(alloc, &reading.files)?;
         reading.is_odd = true;
         return Ok(());
     }
-    apply_picked(&mut reading.left, event, pick, reading.is_odd)?;
-    apply(&mut reading.files, event)?;
+    apply_picked(&mut reading.left, act, pick, reading.is_odd)?;
+    apply(&mut reading.files, act)?;
     reading.is_odd = !reading.is_odd;
     Ok(())
 }
 
-/// Reads one event more, where it is of one of the first `moment` calls.
+/// Reads one act more, where it is of one of the first `moment` calls.
 fn read_before(
     reading: &mut Replay,
     moment: u64,
     number: u64,
-    event: &Event,
+    act: &Act,
     pick: Pick,
 ) -> Result<(), NoMemory>
     requires files { IsTrue (is_rising (entries_of reading.old.files.items)) }
     requires left { IsTrue (is_rising (entries_of reading.old.left.items)) }
-    ensures { OnOk result (reading_of reading.new ≡ (if ltb number moment then replay_one pick (event_of event.now) (reading_of reading.old) else reading_of reading.old)) }
+    ensures { OnOk result (reading_of reading.new ≡ (if ltb number moment then replay_one pick (act_of act.now) (reading_of reading.old) else reading_of reading.old)) }
 {
     if number >= moment {
         return Ok(());
     }
-    read_on(reading, event, pick)
+    read_on(reading, act, pick)
 }
 
 /// What a crash leaves after the first `moment` calls.
 pub(crate) fn left_at(
     alloc: Global,
     start: &[(FilePath, Vec<u8>)],
-    log: &[(u64, Event)],
+    log: &[(u64, Act)],
     moment: u64,
     pick: Pick,
 ) -> Result<Vec<(FilePath, Vec<u8>)>, NoMemory>
@@ -116,8 +115,8 @@ pub(crate) fn left_at(
         left: copy_files(alloc, start)?,
         is_odd: true,
     };
-    for (number, event) in log {
-        read_before(&mut reading, moment, *number, event, pick)?;
+    for (number, act) in log {
+        read_before(&mut reading, moment, *number, act, pick)?;
     }
     Ok(reading.left)
 }

@@ -6,8 +6,7 @@ ghost use Rattle.std.specs.Cmp.Lexicographic.{slice_cmp};
 ghost use Rattle.std.specs.declared.cmp.Ordering.TheVariants.{Greater};
 ghost use Rattle.disk_model.specs.Entries.{entry_of, entries_of, files_of, is_rising, with_entry, without_entry, moved_entry};
 
-use gopass_base::NoMemory;
-use mount_table::FilePath;
+use gopass_base::{FilePath, NoMemory};
 use std::alloc::Global;
 
 /// How many of the first files lie before the path.

@@ -1,12 +1,14 @@
 //! The disk as the store sees it, and one in memory.
 #![tactic(auto)]
 
+mod act;
 mod crash;
 mod disk;
 mod entries;
-mod event;
 mod listing;
 mod mem_disk;
+#[cfg(test)]
+mod mem_disk_tests;
 #[cfg(test)]
 mod tests;
 

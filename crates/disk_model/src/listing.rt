@@ -2,11 +2,10 @@
 
 ghost use Rattle.std.specs.Prelude.{◌≡◌, IfOk, MatchOption};
 ghost use Rattle.disk_model.specs.Entries.{entries_of};
-ghost use Rattle.disk_model.specs.Listing.{IsAtMost, has_git, lies_in, paths_in, rest_in};
+ghost use Rattle.disk_model.specs.Listing.{IsAtMost, IsShort, has_git, lies_in, paths_in, rest_in};
 
 use crate::disk::Listed;
-use gopass_base::NoMemory;
-use mount_table::FilePath;
+use gopass_base::{FilePath, NoMemory};
 use std::alloc::Global;
 
 /// What stands in the path behind the directory and a slash, where it lies below the directory.
@@ -43,7 +42,8 @@ pub(crate) fn list(
     dir: &FilePath,
     max: usize,
 ) -> Result<Listed, NoMemory>
-    ensures { IfOk result (IsAtMost (paths_in dir.now (entries_of files.now)) max) }
+    ensures content { IfOk result (IsAtMost (paths_in dir.now (entries_of files.now)) max) }
+    ensures short { IfOk result (IsShort max) }
 {
     let mut paths = Vec::new(alloc);
     for (path, _) in files {

@@ -1,37 +1,37 @@
 //! A disk in memory.
 
-ghost use Rattle.std.specs.Prelude.{ℕ, ◌≡◌, ◌↔◌, ◌≤◌, ◌<◌, ◌-◌, ◌^◌, [], IfOk, IsErr, OnOk, OnErr, MatchResult, IsTrue, Err, None, Some, Contains};
+ghost use Rattle.std.specs.Prelude.{ℕ, ◌≡◌, ◌↔◌, ◌≤◌, ◌<◌, ◌-◌, ◌^◌, [], IfOk, IsErr, OnOk, OnErr, MatchResult, IsTrue, IsFalse, Err, None, Some, Contains};
 ghost use Rattle.gopass_base.specs.Text.{Text};
-ghost use Rattle.gopass_base.specs.Faults.{HasCause};
+ghost use Rattle.gopass_base.specs.Faults.{HasCause, counted};
 ghost use Rattle.gopass_base.specs.Calls.{no_calls};
 ghost use Rattle.disk_model.specs.Files.{put, moved, Writes, Moves, Drops};
 ghost use Rattle.disk_model.specs.Disk.{Rests, Steps, IsMade, Syncs, Only, Stay, IsDurable};
 ghost use Rattle.disk_model.specs.Answers.{Reads, IsWithin};
 ghost use Rattle.disk_model.specs.Listing.{Lists, IsShort};
 ghost use Rattle.disk_model.specs.Entries.{entries_of, files_of, is_rising};
-ghost use Rattle.disk_model.specs.Events.{Write, Rename, Remove, Sync, event_of, before, Images};
+ghost use Rattle.disk_model.specs.Acts.{Write, Rename, Remove, Sync, act_of, before, Images};
 ghost use Rattle.disk_model.specs.Crashes.{picked};
-ghost use Rattle.disk_model.specs.Memory.{IsRecorded, rested, did, view_of, view_sound};
+ghost use Rattle.disk_model.specs.Memory.{IsRecorded, rested, taken, did, view_of, view_sound};
 
+use crate::act::{Act, record, removed, renamed, written};
 use crate::crash::{Pick, left_at};
 use crate::entries::{copy_files, find, put_file};
-use crate::event::{Event, record, removed, renamed, written};
 use crate::listing::list;
 use crate::{Disk, DiskFault, Got, Listed};
-use gopass_base::{CallLog, Failed, NoMemory};
-use mount_table::FilePath;
+use gopass_base::{CallLog, Failed, FilePath, NoMemory};
 use std::alloc::Global;
 use std::marker::Model;
 
 /// A disk in memory, which tells its content. It keeps its files in rising order of their paths,
 /// those that it began with, and what it did since, each step and each sync with the number of its
-/// call. A call that fails does nothing.
+/// call. A call that fails does nothing but to be counted.
 #[derive(Drop)]
 pub struct MemDisk {
     start: Vec<(FilePath, Vec<u8>)>,
     files: Vec<(FilePath, Vec<u8>)>,
-    log: Vec<(u64, Event)>,
+    log: Vec<(u64, Act)>,
     calls: CallLog,
+    is_held: bool,
 }
 
 impl Model for MemDisk {
@@ -39,9 +39,9 @@ impl Model for MemDisk {
 
     ghost Value = { MemoryDisk };
 
-    ghost view = { λ disk. memory_of disk.start.items disk.files.items disk.log.items disk.calls };
+    ghost view = { λ disk. memory_of disk.start.items disk.files.items disk.log.items disk.calls disk.is_held };
 
-    ghost invariant = { λ disk. IsRecorded (memory_of disk.start.items disk.files.items disk.log.items disk.calls) };
+    ghost invariant = { λ disk. IsRecorded (memory_of disk.start.items disk.files.items disk.log.items disk.calls disk.is_held) };
 }
 
 /// The files in rising order of their paths.
@@ -79,6 +79,7 @@ fn begin(alloc: Global, files: Vec<(FilePath, Vec<u8>)>) -> Result<MemDisk, NoMe
     ensures entries { IfOk result (λ disk. disk.entries ≡ entries_of files.items) }
     ensures log { IfOk result (λ disk. disk.log ≡ []) }
     ensures calls { IfOk result (λ disk. disk.calls ≡ no_calls []) }
+    ensures held { IfOk result (λ disk. IsFalse disk.held) }
     ensures stands { IfOk result (λ disk. IsDurable (files_of disk.entries) (view_of disk)) }
 {
     Ok(MemDisk {
@@ -86,17 +87,19 @@ fn begin(alloc: Global, files: Vec<(FilePath, Vec<u8>)>) -> Result<MemDisk, NoMe
         files,
         log: Vec::new(alloc),
         calls: CallLog::new(Vec::new(alloc)),
+        is_held: false,
     })
 }
 
 impl MemDisk {
-    /// A disk with these files, which are its only image. Where a path is there twice, the first
+    /// A disk with these files, which are its only image, and not held. Where a path is there twice, the first
     /// file counts.
     pub fn new(alloc: Global, files: Vec<(FilePath, Vec<u8>)>) -> Result<MemDisk, NoMemory>
         ensures files { IfOk result (λ disk. (path : Text) → files_of disk.entries path ≡ files_of (entries_of files.items) path) }
         ensures start { IfOk result (λ disk. disk.start ≡ disk.entries) }
         ensures log { IfOk result (λ disk. disk.log ≡ []) }
         ensures calls { IfOk result (λ disk. disk.calls ≡ no_calls []) }
+        ensures held { IfOk result (λ disk. IsFalse disk.held) }
         ensures stands { IfOk result (λ disk. IsDurable (files_of disk.entries) (view_of disk)) }
     {
         begin(alloc, in_order(alloc, files)?)
@@ -126,8 +129,8 @@ impl MemDisk {
     }
 
     /// The disk as a crash after the first `moment` calls leaves it: the files at the last sync,
-    /// with those of the later steps that are picked. A crash since any moment up to this one may
-    /// have left these files.
+    /// with those of the later steps that are picked, and not held. A crash since any moment up to
+    /// this one may have left these files.
     pub fn crash(&self, moment: u64, pick: Pick) -> Result<MemDisk, NoMemory>
         requires { moment ≤ self.now.calls.made }
         ensures files { IfOk result (λ disk. disk.entries ≡ picked pick self.now.start (before moment self.now.log)) }
@@ -136,6 +139,7 @@ impl MemDisk {
         ensures start { IfOk result (λ disk. disk.start ≡ disk.entries) }
         ensures log { IfOk result (λ disk. disk.log ≡ []) }
         ensures calls { IfOk result (λ disk. disk.calls ≡ no_calls []) }
+        ensures held { IfOk result (λ disk. IsFalse disk.held) }
         ensures stands { IfOk result (λ disk. IsDurable (files_of disk.entries) (view_of disk)) }
     {
         let alloc = *self.files.allocator();
@@ -153,10 +157,10 @@ impl MemDisk {
         self.calls.call()
     }
 
-    /// One call that does what the event says, where there is memory for both.
-    fn make(&mut self, event: Result<Event, NoMemory>) -> Result<(), DiskFault>
+    /// One call that does what the act says, where there is memory for both.
+    fn make(&mut self, act: Result<Act, NoMemory>) -> Result<(), DiskFault>
         ensures recorded { IsRecorded self.old }
-        ensures did { OnOk result (MatchResult event (λ event. self.new ≡ did (event_of event) self.old) (λ _. ⊥)) }
+        ensures did { OnOk result (MatchResult act (λ act. self.new ≡ did (act_of act) self.old) (λ _. ⊥)) }
         ensures number { OnOk result (self.old.calls.made < 2 ^ 64 - 1) }
         ensures rested { OnErr result (self.new ≡ rested self.old) }
         ensures fails { result ≡ Err DiskFault.Failed ↔ Contains self.old.calls.failing self.old.calls.made }
@@ -164,23 +168,30 @@ impl MemDisk {
     {
         let number = self.calls.made();
         self.calls.call()?;
-        record(&mut self.files, &mut self.log, number, event?)?;
+        record(&mut self.files, &mut self.log, number, act?)?;
         Ok(())
     }
 }
 
 impl Disk for MemDisk {
-    ghost meaning = { record { tells = Unit {0}; view = view_of; faults = λ disk. disk.calls.faults } };
+    ghost meaning = { record { tells = Unit {0}; view = view_of; faults = λ disk. disk.calls.faults; calls = λ disk. disk.calls.made; held = λ disk. disk.held } };
 
     ghost sound = { λ disk told. view_sound disk };
 
     fn hold(&mut self) -> Result<(), DiskFault>
-        ensures rested { self.new ≡ rested self.old }
+        ensures gives { OnOk result (self.new ≡ taken self.old) }
+        ensures rested { OnErr result (self.new ≡ rested self.old) }
         ensures fails { result ≡ Err DiskFault.Failed ↔ Contains self.old.calls.failing self.old.calls.made }
         ensures rests { Unit {0} → Rests (view_of self.old) (view_of self.new) }
+        ensures taken { OnOk result (IsTrue self.new.held) }
+        ensures kept { IsTrue self.old.held → IsTrue self.new.held }
+        ensures counted { self.new.calls.made ≡ counted self.old.calls.made }
+        ensures later { self.old.calls.made ≤ self.new.calls.made }
         ensures cause { HasCause self.old.calls.faults self.new.calls.faults (result ≡ Err DiskFault.Failed) }
     {
-        Ok(self.rest()?)
+        self.rest()?;
+        self.is_held = true;
+        Ok(())
     }
 
     fn list(&mut self, dir: &FilePath, max: usize) -> Result<Listed, DiskFault>
@@ -189,6 +200,9 @@ impl Disk for MemDisk {
         ensures rests { Unit {0} → Rests (view_of self.old) (view_of self.new) }
         ensures listed { IfOk result (λ listed. Unit {0} → Lists (view_of self.old).files dir.now max listed) }
         ensures bound { IfOk result (IsShort max) }
+        ensures held { self.new.held ≡ self.old.held }
+        ensures counted { self.new.calls.made ≡ counted self.old.calls.made }
+        ensures later { self.old.calls.made ≤ self.new.calls.made }
         ensures cause { HasCause self.old.calls.faults self.new.calls.faults (result ≡ Err DiskFault.Failed) }
     {
         self.rest()?;
@@ -201,6 +215,9 @@ impl Disk for MemDisk {
         ensures rests { Unit {0} → Rests (view_of self.old) (view_of self.new) }
         ensures got { IfOk result (λ got. Unit {0} → Reads ((view_of self.old).files path.now) max got) }
         ensures bound { IfOk result (IsWithin max) }
+        ensures held { self.new.held ≡ self.old.held }
+        ensures counted { self.new.calls.made ≡ counted self.old.calls.made }
+        ensures later { self.old.calls.made ≤ self.new.calls.made }
         ensures cause { HasCause self.old.calls.faults self.new.calls.faults (result ≡ Err DiskFault.Failed) }
     {
         self.rest()?;
@@ -213,10 +230,13 @@ impl Disk for MemDisk {
         ensures fails { result ≡ Err DiskFault.Failed ↔ Contains self.old.calls.failing self.old.calls.made }
         ensures steps { Unit {0} → Steps (Writes path.now) (view_of self.old) (view_of self.new) }
         ensures made { OnOk result (Unit {0} → IsMade (Writes path.now) (put (view_of self.old).files path.now (Some bytes.now)) (view_of self.old) (view_of self.new)) }
+        ensures held { self.new.held ≡ self.old.held }
+        ensures counted { self.new.calls.made ≡ counted self.old.calls.made }
+        ensures later { self.old.calls.made ≤ self.new.calls.made }
         ensures cause { HasCause self.old.calls.faults self.new.calls.faults (result ≡ Err DiskFault.Failed) }
     {
-        let event = written(*self.files.allocator(), path, bytes);
-        self.make(event)
+        let act = written(*self.files.allocator(), path, bytes);
+        self.make(act)
     }
 
     fn rename(&mut self, from: &FilePath, to: &FilePath) -> Result<(), DiskFault>
@@ -225,10 +245,13 @@ impl Disk for MemDisk {
         ensures fails { result ≡ Err DiskFault.Failed ↔ Contains self.old.calls.failing self.old.calls.made }
         ensures steps { Unit {0} → Steps (Moves from.now to.now) (view_of self.old) (view_of self.new) }
         ensures made { OnOk result (Unit {0} → IsMade (Moves from.now to.now) (moved from.now to.now (view_of self.old).files) (view_of self.old) (view_of self.new)) }
+        ensures held { self.new.held ≡ self.old.held }
+        ensures counted { self.new.calls.made ≡ counted self.old.calls.made }
+        ensures later { self.old.calls.made ≤ self.new.calls.made }
         ensures cause { HasCause self.old.calls.faults self.new.calls.faults (result ≡ Err DiskFault.Failed) }
     {
-        let event = renamed(*self.files.allocator(), from, to);
-        self.make(event)
+        let act = renamed(*self.files.allocator(), from, to);
+        self.make(act)
     }
 
     fn remove(&mut self, path: &FilePath) -> Result<(), DiskFault>
@@ -237,10 +260,13 @@ impl Disk for MemDisk {
         ensures fails { result ≡ Err DiskFault.Failed ↔ Contains self.old.calls.failing self.old.calls.made }
         ensures steps { Unit {0} → Steps (Drops path.now) (view_of self.old) (view_of self.new) }
         ensures made { OnOk result (Unit {0} → IsMade (Drops path.now) (put (view_of self.old).files path.now None) (view_of self.old) (view_of self.new)) }
+        ensures held { self.new.held ≡ self.old.held }
+        ensures counted { self.new.calls.made ≡ counted self.old.calls.made }
+        ensures later { self.old.calls.made ≤ self.new.calls.made }
         ensures cause { HasCause self.old.calls.faults self.new.calls.faults (result ≡ Err DiskFault.Failed) }
     {
-        let event = removed(*self.files.allocator(), path);
-        self.make(event)
+        let act = removed(*self.files.allocator(), path);
+        self.make(act)
     }
 
     fn sync(&mut self) -> Result<(), DiskFault>
@@ -250,125 +276,11 @@ impl Disk for MemDisk {
         ensures syncs { Unit {0} → Syncs (view_of self.old) (view_of self.new) }
         ensures only { OnOk result (Unit {0} → Only (view_of self.old).files (view_of self.new)) }
         ensures stay { OnErr result (Unit {0} → Stay (view_of self.old) (view_of self.new)) }
+        ensures held { self.new.held ≡ self.old.held }
+        ensures counted { self.new.calls.made ≡ counted self.old.calls.made }
+        ensures later { self.old.calls.made ≤ self.new.calls.made }
         ensures cause { HasCause self.old.calls.faults self.new.calls.faults (result ≡ Err DiskFault.Failed) }
     {
-        self.make(Ok(Event::Sync))
-    }
-}
-
-#[cfg(test)]
-mod tests {
-    use super::*;
-    use std::test::Fail;
-
-    fn path(rt: &HostRuntime, text: &str) -> Result<FilePath, Fail> {
-        Ok(FilePath::read(rt.alloc(), text)?)
-    }
-
-    fn disk(rt: &HostRuntime) -> Result<MemDisk, Fail> {
-        let mut files = Vec::new(rt.alloc());
-        files.push((path(rt, "r/b")?, b"two".to_vec(rt.alloc())?))?;
-        files.push((path(rt, "r/a")?, b"one".to_vec(rt.alloc())?))?;
-        files.push((path(rt, "q")?, Vec::new(rt.alloc())))?;
-        Ok(MemDisk::new(rt.alloc(), files)?)
-    }
-
-    #[test]
-    fn files_stand_in_order(rt: HostRuntime) -> Result<(), Fail> {
-        let disk = disk(&rt)?;
-        let mut texts = String::new(rt.alloc());
-        for (path, bytes) in disk.files() {
-            texts.push_str(path.text())?;
-            assert!(rt; bytes.len() < 4);
-        }
-        assert_eq!(rt; texts.as_str(), "qr/ar/b");
-        Ok(())
-    }
-
-    #[test]
-    fn a_read_gives_the_file_up_to_its_limit(rt: HostRuntime) -> Result<(), Fail> {
-        let mut disk = disk(&rt)?;
-        let two = path(&rt, "r/b")?;
-        match disk.read(&two, 3) {
-            Ok(Got::Bytes(bytes)) => assert_eq!(rt; bytes.as_slice(), b"two".as_slice()),
-            _ => assert!(rt; false),
-        }
-        assert!(rt; matches!(disk.read(&two, 2), Ok(Got::Long)));
-        assert!(rt; matches!(disk.read(&path(&rt, "r")?, 3), Ok(Got::Absent)));
-        assert_eq!(rt; disk.steps(), 3);
-        Ok(())
-    }
-
-    /// The paths of a listing, each with a line feed behind it, or `many`.
-    fn listed(rt: &HostRuntime, disk: &mut MemDisk, dir: &str, max: usize) -> Result<String, Fail> {
-        let mut texts = String::new(rt.alloc());
-        match disk.list(&path(rt, dir)?, max)? {
-            Listed::Many => texts.push_str("many")?,
-            Listed::All(paths) => {
-                for path in &paths {
-                    texts.push_str(path.text())?;
-                    texts.push('\n')?;
-                }
-            }
-        }
-        Ok(texts)
-    }
-
-    #[test]
-    fn a_listing_has_the_paths_below_a_directory(rt: HostRuntime) -> Result<(), Fail> {
-        let mut files = Vec::new(rt.alloc());
-        for text in [
-            "r/b",
-            "r/a/x",
-            "r/a.b",
-            "rr/c",
-            "r",
-            "r/.git/d",
-            "r/a/.git/e",
-            "r/a/.gitx",
-            "r/.a",
-        ] {
-            files.push((path(&rt, text)?, Vec::new(rt.alloc())))?;
-        }
-        let mut disk = MemDisk::new(rt.alloc(), files)?;
-        for (dir, max, paths) in [
-            ("r", 9, "r/.a\nr/a.b\nr/a/.gitx\nr/a/x\nr/b\n"),
-            ("r", 5, "r/.a\nr/a.b\nr/a/.gitx\nr/a/x\nr/b\n"),
-            ("r", 4, "many"),
-            ("r/a", 2, "r/a/.gitx\nr/a/x\n"),
-            ("r/.git", 1, "r/.git/d\n"),
-            ("r/b", 0, ""),
-            ("q", 0, ""),
-        ] {
-            assert_eq!(rt;
-                listed(&rt, &mut disk, dir, max)?.as_str(),
-                paths,
-                "{dir} {max}"
-            );
-        }
-        assert_eq!(rt; disk.steps(), 7);
-        Ok(())
-    }
-
-    #[test]
-    fn to_hold_is_a_call(rt: HostRuntime) -> Result<(), Fail> {
-        let mut disk = disk(&rt)?;
-        disk.fail_at(vec![in rt.alloc(); 1u64]?);
-        assert_eq!(rt; disk.hold(), Ok(()));
-        assert_eq!(rt; disk.hold(), Err(DiskFault::Failed));
-        assert!(rt; matches!(disk.list(&path(&rt, "r")?, 3), Ok(Listed::All(_))));
-        assert_eq!(rt; disk.steps(), 3);
-        Ok(())
-    }
-
-    #[test]
-    fn the_given_calls_fail(rt: HostRuntime) -> Result<(), Fail> {
-        let mut disk = disk(&rt)?;
-        disk.fail_at(vec![in rt.alloc(); 1u64]?);
-        assert!(rt; disk.read(&path(&rt, "q")?, 3).is_ok());
-        assert!(rt; matches!(disk.read(&path(&rt, "q")?, 3), Err(DiskFault::Failed)));
-        assert!(rt; disk.read(&path(&rt, "q")?, 3).is_ok());
-        assert_eq!(rt; disk.steps(), 3);
-        Ok(())
+        self.make(Ok(Act::Sync))
     }
 }

@@ -1,7 +1,7 @@
 //! What the calls make of a disk in memory, and what a crash leaves of it.
 
 use crate::{Disk, DiskFault, MemDisk, Pick};
-use mount_table::FilePath;
+use gopass_base::FilePath;
 use std::test::Fail;
 
 fn path(rt: &HostRuntime, text: &str) -> Result<FilePath, Fail> {

@@ -1,6 +1,6 @@
 use Rattle.std.proofs.Common.{◌≡◌, drop}
 use Rattle.disk_model.specs.Entries.{entries_of}
-use Rattle.disk_model.specs.Events.{before, log_of}
+use Rattle.disk_model.specs.Acts.{before, log_of}
 use Rattle.disk_model.specs.Crashes.{replay_all, replay_start, reading_of}
 use Rattle.disk_model.proofs.CrashLemmas.{Rises}
 use Rattle.disk_model.proofs.crash.left_at.Given as goal

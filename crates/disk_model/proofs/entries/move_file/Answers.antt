@@ -1,6 +1,6 @@
 use Rattle.std.proofs.Common.{◌∙◌, ap, sym}
 use Rattle.disk_model.specs.Entries.{entries_of, moved_to}
-use Rattle.disk_model.proofs.EventLemmas.{none_taken}
+use Rattle.disk_model.proofs.ActLemmas.{none_taken}
 use Rattle.disk_model.proofs.entries.move_file.Goals as goal
 
 pub returns-in-None : goal.returns-in-None

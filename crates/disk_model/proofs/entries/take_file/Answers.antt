@@ -1,7 +1,7 @@
 use Rattle.std.proofs.Common.{◌≡◌, ◌<◌, ◌∙◌, ℕ, List, Vec, Global, None, length, get_or, ap, sym, subst}
 use Rattle.gopass_base.specs.Text.{Text}
 use Rattle.disk_model.specs.Entries.{entries_of, files_of}
-use Rattle.disk_model.proofs.EventLemmas.{none_taken, taken_out}
+use Rattle.disk_model.proofs.ActLemmas.{none_taken, taken_out}
 use Rattle.disk_model.proofs.entries.take_file.Goals as goal
 
 abbrev Held : Type 0

@@ -1,7 +1,7 @@
 use Rattle.std.proofs.Common.{◌≡◌, ◌≤◌, ℕ, true, ap, sym, subst, ◌∙◌}
 use Rattle.std.proofs.lemmas.Result.{IfOk-weaker}
 use Rattle.disk_model.specs.Entries.{Entries, entries_of, files_of, is_rising}
-use Rattle.disk_model.specs.Events.{before, log_of, Images}
+use Rattle.disk_model.specs.Acts.{before, log_of, Images}
 use Rattle.disk_model.specs.Crashes.{picked}
 use Rattle.disk_model.specs.Memory.{MemoryDisk, view_of}
 use Rattle.disk_model.proofs.CrashLemmas.{picked_image, picked_rises}
@@ -11,9 +11,9 @@ use Rattle.disk_model.proofs.mem_disk.MemDisk.crash.Goals as goal
 pub begin-requires : goal.begin-requires
 begin-requires c =
     let start : entries_of c.deref.result.now ≡ entries_of c.self.inside.start.items = ap entries_of c.deref.ensures.value in
-    let events = before c.args.moment (log_of c.deref-2.result.now) in
+    let acts = before c.args.moment (log_of c.deref-2.result.now) in
     subst (λ (es : Entries). is_rising es ≡ true) (sym c.in_ok-left_at.ensures)
-    (picked_rises c.args.pick (entries_of c.deref.result.now) events (subst (λ (es : Entries). is_rising es ≡ true) (sym start) c.self.invariant.start))
+    (picked_rises c.args.pick (entries_of c.deref.result.now) acts (subst (λ (es : Entries). is_rising es ≡ true) (sym start) c.self.invariant.start))
 
 pub returns-clause-image : goal.returns-clause-image
 returns-clause-image c =

@@ -1,5 +1,5 @@
 use Rattle.std.proofs.Common.{refl}
-use Rattle.disk_model.specs.Events.{Write}
+use Rattle.disk_model.specs.Acts.{Write}
 use Rattle.disk_model.proofs.MemoryLemmas.{did_by, steps_by, made_by}
 use Rattle.disk_model.proofs.mem_disk.MemDiskDisk.write.Goals as goal
 
@@ -7,10 +7,10 @@ pub returns-clause-steps : goal.returns-clause-steps
 returns-clause-steps c told =
     let e = Write c.args.path.now c.args.bytes.now in
     steps_by c.make.result e c.args.self.now c.make.new.self refl c.make.ensures.recorded c.make.ensures.number
-    (did_by c.make.result c.written-event.result e c.args.self.now c.make.new.self c.make.ensures.did c.written-event.ensures) c.make.ensures.rested
+    (did_by c.make.result c.written-act.result e c.args.self.now c.make.new.self c.make.ensures.did c.written-act.ensures) c.make.ensures.rested
 
 pub returns-clause-made : goal.returns-clause-made
 returns-clause-made c =
     let e = Write c.args.path.now c.args.bytes.now in
     made_by c.make.result e c.args.self.now c.make.new.self refl c.make.ensures.recorded c.make.ensures.number
-    (did_by c.make.result c.written-event.result e c.args.self.now c.make.new.self c.make.ensures.did c.written-event.ensures)
+    (did_by c.make.result c.written-act.result e c.args.self.now c.make.new.self c.make.ensures.did c.written-act.ensures)

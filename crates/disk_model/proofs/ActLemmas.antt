@@ -1,4 +1,4 @@
--- What events make of a list of files, and one event more.
+-- What acts make of a list of files, and one act more.
 use Rattle.std.proofs.Common.{◌≡◌, inl, inr, ℕ, zero, suc, ◌≤◌, ◌<◌, Bool, true, false, not, T, cond, if◌then◌else◌, ◌&&◌, List, [], ◌∷◌, ◌++◌, length, get_or, take, drop, Option, None, Some, Vec, bytes_eq, refl, sym, ◌∙◌, ap, subst, arith}
 use Rattle.std.specs.Ordering.{nat_cmp, is_eq, is_lt, eq_by_cmp}
 use Rattle.std.specs.declared.cmp.Ordering.{Ordering}
@@ -13,7 +13,7 @@ use Rattle.std.proofs.lemmas.Map.Text.{is_eq-slice_cmp}
 use Rattle.gopass_base.specs.Text.{Text}
 use Rattle.disk_model.specs.Files.{Files, put, moved, moved_file}
 use Rattle.disk_model.specs.Entries.{Entries, entry_of, entries_of, files_of, with_entry, without_entry, moved_to, is_rising}
-use Rattle.disk_model.specs.Events.{Event, Write, Rename, Remove, Sync, Log, before, made, files_after, entries_made, entries_after, Next, ImagesAfter}
+use Rattle.disk_model.specs.Acts.{Act, Write, Rename, Remove, Sync, Log, before, made, files_after, entries_made, entries_after, Next, ImagesAfter}
 use Rattle.disk_model.specs.Memory.{is_past}
 use Rattle.disk_model.proofs.FileLemmas.{cases_path, same_path, other_path}
 
@@ -50,16 +50,16 @@ moved_to_files : (file : Option Text) (from to : Text) (es : Entries) → files_
 moved_to_files None from to es = refl
 moved_to_files (Some bytes) from to es = with_files to bytes (without_entry from es) ∙ ap (λ (f : Files). put f to (Some bytes)) (without_files from es)
 
-pub made_files : (e : Event) (es : Entries) → files_of (entries_made e es) ≡ made e (files_of es)
+pub made_files : (e : Act) (es : Entries) → files_of (entries_made e es) ≡ made e (files_of es)
 unfolding moved
 made_files (Write path bytes) es = with_files path bytes es
 made_files (Rename from to) es = moved_to_files (files_of es from) from to es
 made_files (Remove path) es = without_files path es
 made_files Sync es = refl
 
-pub after_files : (events : List Event) (es : Entries) → files_of (entries_after events es) ≡ files_after events (files_of es)
+pub after_files : (acts : List Act) (es : Entries) → files_of (entries_after acts es) ≡ files_after acts (files_of es)
 after_files [] es = refl
-after_files (e ∷ events) es = after_files events (entries_made e es) ∙ ap (files_after events) (made_files e es)
+after_files (e ∷ acts) es = after_files acts (entries_made e es) ∙ ap (files_after acts) (made_files e es)
 
 -- ---- they stay in rising order
 
@@ -80,7 +80,7 @@ moved_rises : (file : Option Text) (from to : Text) (es : Entries) → is_rising
 moved_rises None from to es up = up
 moved_rises (Some bytes) from to es up = with_rises to bytes (without_entry from es) (without_rises from es up)
 
-pub made_rises : (e : Event) (es : Entries) → is_rising es ≡ true → is_rising (entries_made e es) ≡ true
+pub made_rises : (e : Act) (es : Entries) → is_rising es ≡ true → is_rising (entries_made e es) ≡ true
 made_rises (Write path bytes) es up = with_rises path bytes es up
 made_rises (Rename from to) es up = moved_rises (files_of es from) from to es up
 made_rises (Remove path) es up = without_rises path es up
@@ -138,29 +138,29 @@ module _ {A : Type 0} where
       ap (λ (fs : Entries). entry_of f ∷ fs) (taken_out path files i (is_true (is_rising (entries_of files)) (second_of (below_all (slice_cmp nat_cmp) f.0 (entries_of files)) (is_rising (entries_of files)) tests)) (omega arith) same)
       ∙ ap (λ b. cond (not b) (entry_of f ∷ without_entry path (entries_of files)) (without_entry path (entries_of files))) (sym (other_below path f.0 less))
 
--- ---- one event more
+-- ---- one act more
 
-pub files_push : (es : List Event) (e : Event) (f : Files) → files_after (es ++ e ∷ []) f ≡ made e (files_after es f)
+pub files_push : (es : List Act) (e : Act) (f : Files) → files_after (es ++ e ∷ []) f ≡ made e (files_after es f)
 files_push [] e f = refl
 files_push (d ∷ es) e f = files_push es e (made d f)
 
-pub entries_push : (es : List Event) (e : Event) (f : Entries) → entries_after (es ++ e ∷ []) f ≡ entries_made e (entries_after es f)
+pub entries_push : (es : List Act) (e : Act) (f : Entries) → entries_after (es ++ e ∷ []) f ≡ entries_made e (entries_after es f)
 entries_push [] e f = refl
 entries_push (d ∷ es) e f = entries_push es e (entries_made d f)
 
-pub images_push : (es : List Event) (e : Event) (f : Files) (I : Files → Type 0) → ImagesAfter (es ++ e ∷ []) f I ≡ Next e (files_after es f) (ImagesAfter es f I)
+pub images_push : (es : List Act) (e : Act) (f : Files) (I : Files → Type 0) → ImagesAfter (es ++ e ∷ []) f I ≡ Next e (files_after es f) (ImagesAfter es f I)
 images_push [] e f I = refl
 images_push (d ∷ es) e f I = images_push es e (made d f) (Next d f I)
 
--- the event of a later call is not among those of the first k
-pub before_same : (k n : ℕ) (log : Log) (e : Event) → k ≤ n → before k (log ++ (n, e) ∷ []) ≡ before k log
+-- the act of a later call is not among those of the first k
+pub before_same : (k n : ℕ) (log : Log) (e : Act) → k ≤ n → before k (log ++ (n, e) ∷ []) ≡ before k log
 before_same k n [] e le = ap (λ b. if b then e ∷ [] else []) (le-ltb n k le)
-before_same k n (d ∷ log) e le = ap (λ (es : List Event). if ltb d.0 k then d.1 ∷ es else es) (before_same k n log e le)
+before_same k n (d ∷ log) e le = ap (λ (es : List Act). if ltb d.0 k then d.1 ∷ es else es) (before_same k n log e le)
 
-pub before_more : (k n : ℕ) (log : Log) (e : Event) → n < k → before k (log ++ (n, e) ∷ []) ≡ before k log ++ e ∷ []
+pub before_more : (k n : ℕ) (log : Log) (e : Act) → n < k → before k (log ++ (n, e) ∷ []) ≡ before k log ++ e ∷ []
 before_more k n [] e lt = ap (λ b. if b then e ∷ [] else []) (lt-ltb n k lt)
 before_more k n (d ∷ log) e lt = elim (ltb d.0 k) as (λ b. (if b then d.1 ∷ before k (log ++ (n, e) ∷ []) else before k (log ++ (n, e) ∷ [])) ≡ (if b then d.1 ∷ before k log else before k log) ++ e ∷ []) [
-  | true ↦ ap (λ (es : List Event). d.1 ∷ es) (before_more k n log e lt)
+  | true ↦ ap (λ (es : List Act). d.1 ∷ es) (before_more k n log e lt)
   | false ↦ before_more k n log e lt
 ]
 
@@ -171,7 +171,7 @@ past_later k n (d ∷ log) le h =
     let lt : d.0 < n = ltb-true d.0 n tests.0 in
     and_from (ltb d.0 k) (is_past k log) (lt-ltb d.0 k (omega (arith, lt))) (past_later k n log le tests.1)
 
-pub past_push : (k n : ℕ) (log : Log) (e : Event) → n < k → is_past k log ≡ true → is_past k (log ++ (n, e) ∷ []) ≡ true
+pub past_push : (k n : ℕ) (log : Log) (e : Act) → n < k → is_past k log ≡ true → is_past k (log ++ (n, e) ∷ []) ≡ true
 past_push k n [] e lt h = and_from (ltb n k) true (lt-ltb n k lt) refl
 past_push k n (d ∷ log) e lt h =
     let tests = and_parts (ltb d.0 k) (is_past k log) h in
