@@ -1,20 +1,25 @@
 -- What a step more makes of a change.
-use Rattle.std.proofs.Common.{◌≡◌, ◌↔◌, ◌⊎◌, inl, inr, ℕ, zero, suc, ◌+◌, ◌-◌, ◌<◌, ◌≤◌, Bool, true, false, ◌||◌, List, [], ◌∷◌, ◌++◌, length, take, drop, get_or, codes, IsTrue, All, Contains, bytes_eq, refl, ap, sym, ◌∙◌, subst, arith, append_assoc, length-append, take_at, drop_at}
-use Rattle.std.specs.Prelude.{◌≢◌, AllPairs, map}
-use Rattle.std.specs.List.{list_any}
+use Rattle.std.proofs.Common.{cond, ◌≡◌, ◌↔◌, ◌⊎◌, inl, inr, ℕ, zero, suc, ◌+◌, ◌-◌, ◌<◌, ◌≤◌, Bool, true, false, ◌||◌, List, [], ◌∷◌, ◌++◌, length, take, drop, get_or, codes, IsTrue, Err, All, Contains, bytes_eq, refl, ap, sym, ◌∙◌, subst, arith, append_assoc, length-append, take_at, drop_at}
+use Rattle.std.specs.Prelude.{◌≢◌, AllPairs}
 use Rattle.std.specs.Str.{is_utf8}
+use Rattle.std.specs.Ordering.{nat_cmp}
+use Rattle.std.specs.Cmp.Lexicographic.{slice_cmp}
+use Rattle.std.specs.BTreeSet.{BTreeSet, contains, Updates}
+use Rattle.std.proofs.lemmas.Map.Text.{is_eq-slice_cmp}
 use Rattle.std.proofs.lemmas.Bool.{false≢true}
 use Rattle.std.proofs.lemmas.List.{map-append, append-nil, get_or_default}
 use Rattle.std.proofs.lemmas.List.Elements.{All-cons, All-head, All-tail, Contains-append_left, Contains-append_right, Contains-append_cases}
 use Rattle.std.proofs.lemmas.List.Kept.{AllPairs-cons}
 use Rattle.std.proofs.lemmas.Slice.Eq.{bytes_eq-Decides}
-use Rattle.gopass_base.specs.Text.{Text}
+use Rattle.gopass_base.specs.Text.{Text, is_among}
 use Rattle.gopass_base.proofs.ListLemmas.{here, later, first_or}
-use Rattle.mount_table.specs.Paths.{IsFilePath}
+use Rattle.gopass_base.specs.Paths.{IsFilePath}
 use Rattle.pending_journal.specs.Service.{is_service}
 use Rattle.pending_journal.specs.Journal.{JournalPlan, IsJournalPlan, paths_of, put_lines, drop_lines, stage_path}
-use Rattle.pending_journal.specs.Built.{IsBuilt, plan_by}
-use Rattle.pending_journal.specs.Change.{contents_of}
+use Rattle.pending_journal.specs.Built.{IsBuilt, ArePaths, plan_by}
+use Rattle.pending_journal.specs.Change.{contents_of, MayAdd}
+use Rattle.pending_journal.specs.declared.change.ChangeAddFault.{ChangeAddFault}
+use Rattle.pending_journal.specs.declared.change.ChangeAddFault.TheVariants.{TwoForOne, Service, Long, NoMemory}
 use Rattle.pending_journal.specs.declared.put.Put.{Put}
 
 -- ---- a step for a path
@@ -29,37 +34,50 @@ first_found false x xs p more same rest = (
   ],
 )
 
-found_among : (xs : List Text) (p : Text) → IsTrue (list_any (λ x. bytes_eq x p) xs) ↔ Contains xs p
+pub found_among : (xs : List Text) (p : Text) → IsTrue (is_among xs p) ↔ Contains xs p
 found_among [] p = (λ t. absurd (cc), λ (k, lt, is). absurd (omega (arith, lt)))
-found_among (x ∷ xs) p = first_found (bytes_eq x p) x xs p (list_any (λ y. bytes_eq y p) xs) (bytes_eq-Decides x p) (found_among xs p)
+found_among (x ∷ xs) p = first_found (bytes_eq x p) x xs p (is_among xs p) (bytes_eq-Decides x p) (found_among xs p)
 
-any_path : (puts : List Put) (p : Text) → list_any (λ (put : Put). bytes_eq put.path p) puts ≡ list_any (λ x. bytes_eq x p) (map (λ (put : Put). put.path) puts)
-any_path [] p = refl
-any_path (put ∷ puts) p = ap (λ b. bytes_eq put.path p || b) (any_path puts p)
+-- the paths kept are those of the steps
+pub step_named : (paths : BTreeSet Text) (puts : List Put) (drops : List Text) (p : Text) → ArePaths paths puts drops → IsTrue (contains (slice_cmp nat_cmp) paths p) ↔ Contains (paths_of (plan_by puts drops)) p
+step_named paths puts drops p is =
+    let found = found_among (paths_of (plan_by puts drops)) p in
+    (λ t. found.0 (sym (is p) ∙ t), λ has. is p ∙ found.1 has)
 
-module _ (puts held_puts : List Put) (drops held_drops : List Text) (p : Text) (one : Bool) (same : held_puts ≡ puts) (any : one ≡ list_any (λ (put : Put). bytes_eq put.path p) held_puts) where
-  abbrev paths : List Text
-  paths = (plan_by puts drops).puts
+-- one path more
+past : (a b c : Bool) → a || cond b true c ≡ cond b true (a || c)
+past true true c = refl
+past true false c = refl
+past false true c = refl
+past false false c = refl
 
-  one_is : one ≡ list_any (λ x. bytes_eq x p) paths
-  one_is = any ∙ ap (list_any (λ (put : Put). bytes_eq put.path p)) same ∙ any_path puts p
+here_first : (b c : Bool) → b || c ≡ cond b true c
+here_first true c = refl
+here_first false c = refl
 
-  -- a put is for the path
-  pub put_held : one ≡ true → IsTrue one ↔ Contains (paths_of (plan_by puts drops)) p
-  put_held yes' = (λ t. Contains-append_left paths drops p ((found_among paths p).0 (sym one_is ∙ yes')), λ has. yes')
+among_more : (xs ys : List Text) (p q : Text) → is_among (xs ++ p ∷ ys) q ≡ cond (bytes_eq p q) true (is_among (xs ++ ys) q)
+among_more [] ys p q = here_first (bytes_eq p q) (is_among ys q)
+among_more (x ∷ xs) ys p q = ap (λ t. bytes_eq x q || t) (among_more xs ys p q) ∙ past (bytes_eq x q) (bytes_eq p q) (is_among (xs ++ ys) q)
 
-  -- no put is, and perhaps a drop
-  pub drop_held : (other : Bool) → one ≡ false → held_drops ≡ drops → other ≡ list_any (λ x. bytes_eq x p) held_drops → IsTrue other ↔ Contains (paths_of (plan_by puts drops)) p
-  drop_held other none same_drops any_drop = (
-    λ t. Contains-append_right paths drops p ((found_among drops p).0 (sym other_is ∙ t)),
-    λ has. elim (Contains-append_cases paths drops p has) [
-      | inl first ↦ absurd (false≢true (sym none ∙ (one_is ∙ (found_among paths p).1 first)))
-      | inr second ↦ other_is ∙ (found_among drops p).1 second
-    ],
-  )
-    where
-      other_is : other ≡ list_any (λ x. bytes_eq x p) drops
-      other_is = any_drop ∙ ap (list_any (λ x. bytes_eq x p)) same_drops
+path_more : (paths now : BTreeSet Text) (old new xs ys : List Text) (p : Text) → old ≡ xs ++ ys → new ≡ xs ++ p ∷ ys → Updates (slice_cmp nat_cmp) paths now p true
+    → ((q : Text) → contains (slice_cmp nat_cmp) paths q ≡ is_among old q) → (q : Text) → contains (slice_cmp nat_cmp) now q ≡ is_among new q
+path_more paths now old new xs ys p was is more so q =
+    more.0 q
+    ∙ (ap (λ t. cond t true (contains (slice_cmp nat_cmp) paths q)) (is_eq-slice_cmp p q)
+    ∙ (ap (λ t. cond (bytes_eq p q) true t) (so q ∙ ap (λ (l : List Text). is_among l q) was)
+    ∙ (sym (among_more xs ys p q) ∙ ap (λ (l : List Text). is_among l q) (sym is))))
+
+pub paths_put : (paths now : BTreeSet Text) (puts puts' : List Put) (drops : List Text) (put : Put) → puts' ≡ puts ++ put ∷ [] → Updates (slice_cmp nat_cmp) paths now put.path true → ArePaths paths puts drops → ArePaths now puts' drops
+paths_put paths now puts puts' drops put pushed more is =
+    let grown : (plan_by puts' drops).puts ≡ (plan_by puts drops).puts ++ put.path ∷ [] = ap (λ (l : List Put). (plan_by l drops).puts) pushed ∙ map-append (λ (one : Put). one.path) puts (put ∷ []) in
+    path_more paths now (paths_of (plan_by puts drops)) (paths_of (plan_by puts' drops)) (plan_by puts drops).puts drops put.path refl
+    (ap (λ (l : List Text). l ++ drops) grown ∙ append_assoc (plan_by puts drops).puts (put.path ∷ []) drops) more is
+
+pub paths_drop : (paths now : BTreeSet Text) (puts : List Put) (drops drops' : List Text) (p : Text) → drops' ≡ drops ++ p ∷ [] → Updates (slice_cmp nat_cmp) paths now p true → ArePaths paths puts drops → ArePaths now puts drops'
+paths_drop paths now puts drops drops' p pushed more is =
+    let ps = (plan_by puts drops).puts in
+    path_more paths now (paths_of (plan_by puts drops)) (paths_of (plan_by puts drops')) (paths_of (plan_by puts drops)) [] p (sym (append-nil (paths_of (plan_by puts drops))))
+    (ap (λ (l : List Text). ps ++ l) pushed ∙ sym (append_assoc ps drops (p ∷ []))) more is
 
 -- ---- a path more among those that are named
 
@@ -210,20 +228,20 @@ module _ (root journal fresh text : Text) (puts_end : ℕ) (puts : List Put) (dr
   built_put put text' end' puts' add made place pushed staged =
       let p = put.path in
       let back = drop_lines drops (codes "end\n") in
-      let paths : (plan_by puts' drops).puts ≡ ps ++ p ∷ [] = ap (λ (l : List Put). (plan_by l drops).puts) pushed ∙ map-append (λ (one : Put). one.path) puts (put ∷ []) in
+      let grown : (plan_by puts' drops).puts ≡ ps ++ p ∷ [] = ap (λ (l : List Put). (plan_by l drops).puts) pushed ∙ map-append (λ (one : Put). one.path) puts (put ∷ []) in
       let whole : text' ≡ codes "journal 1\n" ++ put_lines (ps ++ p ∷ []) back = made ∙ text_put ps drops p text puts_end old.text_is old.end_is in
       let before = ap length (old.text_is ∙ text_of_puts ps back) in
       let after = ap length (whole ∙ text_of_puts (ps ++ p ∷ []) back) in
       record {
         journal_is = old.journal_is;
         fresh_is = old.fresh_is;
-        text_is = whole ∙ ap (λ (l : List Text). codes "journal 1\n" ++ put_lines l back) (sym paths);
+        text_is = whole ∙ ap (λ (l : List Text). codes "journal 1\n" ++ put_lines l back) (sym grown);
         end_is =
             omega (arith, place, old.end_is, before, after, end_put ps p, length-append (puts_text ps) back, length-append (puts_text (ps ++ p ∷ [])) back)
-            ∙ ap (λ (l : List Text). length (puts_text l)) (sym paths);
+            ∙ ap (λ (l : List Text). length (puts_text l)) (sym grown);
         plan =
             plan_more root (plan_by puts drops) (plan_by puts' drops) ps drops p refl
-            (ap (λ (l : List Text). l ++ drops) paths ∙ append_assoc ps (p ∷ []) drops) add old.plan;
+            (ap (λ (l : List Text). l ++ drops) grown ∙ append_assoc ps (p ∷ []) drops) add old.plan;
         staged = subst (λ (l : List Put). (i : ℕ) (d : Put) → i < length l → (get_or l i d).staged ≡ stage_path root i) (sym pushed) (stages_push (stage_path root) puts put old.staged staged);
       }
 
@@ -239,3 +257,13 @@ module _ (root journal fresh text : Text) (puts_end : ℕ) (puts : List Put) (dr
         (ap (λ (l : List Text). ps ++ l) pushed ∙ sym (append_assoc ps drops (p ∷ []))) add old.plan;
     staged = old.staged;
   }
+
+-- the first step is refused for a path of the vault's own and for want of memory alone
+pub first_step : (root : Text) (puts : List Put) (drops : List Text) (path : Text) (fault : ChangeAddFault) → contents_of puts ≡ [] → drops ≡ [] → is_service root path ≡ false
+    → MayAdd root (plan_by puts drops) path {T = Unit {0}} (Err fault) → fault ≡ NoMemory
+first_step root (p ∷ puts) drops path fault none _ plain may = absurd (cc)
+first_step root [] (d ∷ drops) path fault _ none plain may = absurd (cc)
+first_step root [] [] path TwoForOne _ _ plain (k, lt, is) = absurd (omega (arith, lt))
+first_step root [] [] path Service _ _ plain may = absurd (false≢true (sym plain ∙ may.1))
+first_step root [] [] path Long _ _ plain may = absurd (omega (arith, may.2))
+first_step root [] [] path NoMemory _ _ plain may = refl

@@ -3,12 +3,12 @@ use Rattle.std.proofs.Common.{◌≡◌, ◌≢◌, ◌⊎◌, inl, inr, ℕ, ze
 use Rattle.std.specs.Option.{option_or}
 use Rattle.std.proofs.lemmas.Bool.{cases_order, false≢true}
 use Rattle.std.proofs.lemmas.List.{get_or_default}
-use Rattle.gopass_base.specs.Text.{Text}
+use Rattle.gopass_base.specs.Text.{Text, is_among}
 use Rattle.disk_model.specs.Files.{Files, put, moved}
 use Rattle.disk_model.proofs.FileLemmas.{cases_path, same_path, other_path, put_here, put_apart, moved_none, moved_some, moved_apart, moved_from, moved_none_stays, put_none_stays, cases_file}
 use Rattle.pending_journal.specs.Service.{is_service, journal_path, fresh_path}
 use Rattle.pending_journal.specs.Journal.{stage_path}
-use Rattle.pending_journal.specs.Redo.{Move, moves_from, source_of, is_among, brought, redone_by, redone}
+use Rattle.pending_journal.specs.Redo.{Move, moves_from, source_of, brought, redone_by, redone}
 use Rattle.pending_journal.specs.declared.put.Put.{Put}
 use Rattle.pending_journal.specs.declared.change.Change.{Change}
 use Rattle.pending_journal.specs.Built.{IsBuilt}
@@ -236,7 +236,7 @@ module _ (root : Text) (change : Change) (ok : IsBuilt root change.journal chang
           ]
 
   -- no path of the vault's own is dropped
-  not_dropped : (q : Text) → is_service root q ≡ true → is_among change.drops.items q ≡ false
+  pub not_dropped : (q : Text) → is_service root q ≡ true → is_among change.drops.items q ≡ false
   not_dropped q own = elim (is_among change.drops.items q) as (λ b. is_among change.drops.items q ≡ b → is_among change.drops.items q ≡ false) [
     | true ↦ λ is. (let (i, lt, at) = place_of change.drops.items q is in absurd (apart root q (get_or change.drops.items i q) own (plain_drop i q lt) (sym (at q))))
     | false ↦ λ is. is
@@ -286,6 +286,7 @@ module _ (root : Text) (change : Change) (ok : IsBuilt root change.journal chang
       | inr (inr more) ↦ absurd (omega arith)
     ];
     none = λ q other none. moved_none_stays (get_or puts i d).staged (get_or puts i d).path files q (other i d lt) (so.none q other none);
+    rest = λ q away clear. moved_apart (get_or puts i d).staged (get_or puts i d).path files q (clear i d lt) (away i d lt) ∙ so.rest q away clear;
   }
     where
       here : (e : Put) → moved (get_or puts i d).staged (get_or puts i d).path files (get_or puts i e).staged ≡ None
@@ -300,4 +301,5 @@ removed_more paths i p is lt before old new so made = subst (IsRemoved paths (i 
     | inr (inr more) ↦ absurd (omega arith)
   ];
   none = λ q none. put_none_stays old p q (so.none q none);
+  rest = λ q other. put_apart old p q None (λ e. false≢true (sym other ∙ ap (is_among paths) (sym e ∙ is) ∙ among_at paths i p lt)) ∙ so.rest q other;
 })

@@ -3,14 +3,14 @@ use Rattle.std.proofs.Common.{◌≡◌, ◌≢◌, ◌⊎◌, inl, inr, ℕ, ze
 use Rattle.std.specs.Option.{option_or}
 use Rattle.std.proofs.lemmas.Bool.{cases_Bool}
 use Rattle.std.proofs.Math.Path.{fun_ext}
-use Rattle.gopass_base.specs.Text.{Text}
+use Rattle.gopass_base.specs.Text.{Text, is_among}
 use Rattle.disk_model.specs.Files.{Files, put, moved, Writes}
 use Rattle.disk_model.specs.Disk.{View, IsSound, Steps, Syncs, Only, IsDurable}
 use Rattle.disk_model.specs.Runs.{Runs, Leaves}
 use Rattle.disk_model.proofs.FileLemmas.{cases_path, put_here, put_apart, moved_some}
 use Rattle.disk_model.proofs.RunLemmas.{runs_step, runs_then, leaves_runs, leaves_then, leaves_step, leaves_sync, leaves_weaken}
 use Rattle.pending_journal.specs.Service.{is_service, without_service, journal_path}
-use Rattle.pending_journal.specs.Redo.{source_of, is_among, brought, redone_by, redone, RecoversTo, IsAtRest, IsBeforeOrAfter}
+use Rattle.pending_journal.specs.Redo.{source_of, brought, redone_by, redone, RecoversTo, IsAtRest, IsBeforeOrAfter}
 use Rattle.pending_journal.specs.declared.put.Put.{Put}
 use Rattle.pending_journal.specs.declared.change.Change.{Change}
 use Rattle.pending_journal.specs.Built.{IsBuilt}
@@ -78,6 +78,7 @@ module _ (root : Text) (change : Change) (ok : IsBuilt root change.journal chang
     stages = λ j d lt. dropped.none (get_or puts j d).staged (fetched.gone j d lt);
     drops = dropped.gone;
     none = λ q other none. dropped.none q (fetched.none q other none);
+    rest = λ q no_put no_stage kept. dropped.rest q kept ∙ fetched.rest q no_put no_stage;
   }
 
   -- ---- the files after

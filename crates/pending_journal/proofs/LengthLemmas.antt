@@ -2,7 +2,7 @@
 use Rattle.std.proofs.Common.{◌+◌, ◌*◌, ◌<◌, ◌≤◌, List, [], ◌∷◌, length, codes, All, arith, ap, length-append}
 use Rattle.std.proofs.lemmas.List.Elements.{All-head, All-tail}
 use Rattle.gopass_base.specs.Text.{Text}
-use Rattle.mount_table.specs.Paths.{IsFilePath}
+use Rattle.gopass_base.specs.Paths.{IsFilePath}
 use Rattle.pending_journal.specs.Journal.{JournalPlan, IsJournalPlan, journal_text, put_lines, drop_lines}
 use Rattle.pending_journal.specs.Faults.{IsBadText}
 use Rattle.pending_journal.proofs.PlanLemmas.{All-left, All-right}

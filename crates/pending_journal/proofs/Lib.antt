@@ -1,3 +1,4 @@
+pub mod CostLemmas
 pub mod ListLemmas
 pub mod ServiceLemmas
 pub mod PlanLemmas
@@ -12,3 +13,5 @@ pub mod BuildLemmas
 pub mod ReadLemmas
 pub mod LineNumberLemmas
 pub mod MendLemmas
+pub mod OpeningLemmas
+pub mod RefusedLemmas

@@ -3,9 +3,9 @@ use Rattle.std.proofs.Common.{◌≡◌, ◌≢◌, List, [], ◌∷◌, ◌++�
 use Rattle.std.specs.Prelude.{Option, None, Some}
 use Rattle.std.proofs.lemmas.List.Elements.{All-nil, All-cons, All-head, All-tail}
 use Rattle.gopass_base.specs.Text.{Text, IsPrintable}
-use Rattle.mount_table.specs.Paths.{IsFilePath}
+use Rattle.gopass_base.specs.Paths.{IsFilePath}
 use Rattle.gopass_base.specs.Lines.{Lacks}
-use Rattle.mount_table.proofs.CleanLemmas.{whole_text, lacks_control, same_cut}
+use Rattle.gopass_base.proofs.CleanLemmas.{whole_text, lacks_control, same_cut}
 use Rattle.disk_model.specs.Files.{Files}
 use Rattle.pending_journal.specs.Service.{journal_path}
 use Rattle.pending_journal.specs.Redo.{RecoversBy, RecoversTo, redone}

@@ -6,10 +6,9 @@ use Rattle.std.proofs.lemmas.Bool.{true≢false}
 use Rattle.std.proofs.lemmas.List.{append-nil, get_or_at, get_or_append_left}
 use Rattle.std.proofs.lemmas.List.Elements.{All-head, All-tail}
 use Rattle.gopass_base.specs.Text.{Text}
-use Rattle.gopass_base.specs.Lines.{cut_at, with_first}
+use Rattle.gopass_base.specs.Lines.{cut_at, with_first, Lacks}
 use Rattle.gopass_base.proofs.LineLemmas.{both, cut_is}
-use Rattle.mount_table.specs.Paths.{IsFilePath}
-use Rattle.gopass_base.specs.Lines.{Lacks}
+use Rattle.gopass_base.specs.Paths.{IsFilePath}
 use Rattle.pending_journal.specs.Service.{is_service}
 use Rattle.pending_journal.specs.Journal.{JournalPlan, IsJournalPlan, paths_of, put_lines, drop_lines, journal_text}
 use Rattle.pending_journal.specs.Faults.{IsBadText}

@@ -3,7 +3,7 @@ use Rattle.std.proofs.Common.{◌≡◌, inl, inr, ⊎_elim, true, false, ◌||�
 use Rattle.std.specs.Prelude.{Contains}
 use Rattle.std.proofs.lemmas.Bool.{cases_Bool, false≢true}
 use Rattle.std.proofs.Math.Path.{fun_ext}
-use Rattle.gopass_base.specs.Text.{Text}
+use Rattle.gopass_base.specs.Text.{Text, is_among}
 use Rattle.disk_model.specs.Files.{Files, put, Drops}
 use Rattle.disk_model.specs.Disk.{View, IsSound, Rests, Steps, Syncs, Only, IsDurable}
 use Rattle.disk_model.specs.Runs.{Runs, Leaves}
@@ -11,7 +11,7 @@ use Rattle.disk_model.specs.Listing.{LiesIn, IsListing}
 use Rattle.disk_model.proofs.FileLemmas.{cases_path, cases_file, same_path, other_path, put_here}
 use Rattle.disk_model.proofs.RunLemmas.{runs_step, runs_then, runs_weaken, leaves_runs, leaves_then, leaves_weaken}
 use Rattle.pending_journal.specs.Service.{is_service, without_service, journal_path, fresh_path, stage_dir}
-use Rattle.pending_journal.specs.Redo.{is_among, redone, RecoversTo, IsAlike, IsAtRest}
+use Rattle.pending_journal.specs.Redo.{redone, RecoversTo, IsAlike, IsAtRest}
 use Rattle.pending_journal.specs.declared.change.Change.{Change}
 use Rattle.pending_journal.specs.Built.{IsBuilt}
 use Rattle.pending_journal.specs.Change.{plan_in}

@@ -2,12 +2,12 @@
 use Rattle.std.proofs.Common.{◌≡◌, ◌≢◌, ◌↔◌, inl, inr, true, false, ◌||◌, if◌then◌else◌, List, Option, None, Some, refl, sym, ◌∙◌, ap, subst}
 use Rattle.std.proofs.lemmas.Bool.{cases_Bool, false≢true, or_parts}
 use Rattle.std.proofs.Math.Path.{fun_ext}
-use Rattle.gopass_base.specs.Text.{Text}
+use Rattle.gopass_base.specs.Text.{Text, is_among}
 use Rattle.disk_model.specs.Files.{Files, put}
 use Rattle.disk_model.proofs.FileLemmas.{put_apart}
 use Rattle.pending_journal.specs.Service.{is_service, without_service, journal_path}
 use Rattle.pending_journal.specs.Journal.{JournalPlan, IsJournalPlan, journal_text}
-use Rattle.pending_journal.specs.Redo.{Move, source_of, is_among, brought, redone_by, redone, RecoversBy, RecoversTo, IsAlike}
+use Rattle.pending_journal.specs.Redo.{Move, source_of, brought, redone_by, redone, RecoversBy, RecoversTo, IsAlike}
 use Rattle.pending_journal.specs.Carrying.{IsUnseen, IsOfPlan}
 use Rattle.pending_journal.proofs.PlanLemmas.{one_plan}
 

@@ -4,8 +4,8 @@ use Rattle.std.specs.List.{onto_first}
 use Rattle.std.proofs.lemmas.Bool.{false≢true, ne_eqb}
 use Rattle.std.proofs.lemmas.List.Elements.{All-nil, All-cons}
 use Rattle.gopass_base.specs.Text.{Text}
-use Rattle.mount_table.specs.Names.{parts}
-use Rattle.mount_table.specs.Paths.{path_in}
+use Rattle.gopass_base.specs.Parts.{parts}
+use Rattle.gopass_base.specs.Paths.{path_in}
 use Rattle.disk_model.specs.Listing.{LiesIn, lies_in, rest_in}
 use Rattle.disk_model.proofs.FileLemmas.{other_path}
 use Rattle.disk_model.proofs.ListingLemmas.{rest_at, rest_is, lies_by, lies_tells}
@@ -85,7 +85,7 @@ six_parts i =
     parts_cons (digit (i / 100000)) _ (digit_not (i / 100000)) (parts_cons (digit (i / 10000)) _ (digit_not (i / 10000)) (parts_cons (digit (i / 1000)) _ (digit_not (i / 1000))
     (parts_cons (digit (i / 100)) _ (digit_not (i / 100)) (parts_cons (digit (i / 10)) _ (digit_not (i / 10)) (parts_cons (digit i) [] (digit_not i) refl)))))
 
-stage_lies : (root : Text) (i : ℕ) → LiesIn (stage_dir root) (stage_path root i)
+pub stage_lies : (root : Text) (i : ℕ) → LiesIn (stage_dir root) (stage_path root i)
 unfolding stage_path
 stage_lies root i = record {
   rest = six_digits i;

@@ -2,9 +2,9 @@
 use Rattle.std.proofs.Common.{◌≡◌, ℕ, ◌/◌, List, [], ◌∷◌, ◌++◌, length, codes, All, refl, ap, sym, ◌∙◌, subst, arith, append_assoc}
 use Rattle.std.proofs.lemmas.List.Elements.{All-nil, All-cons}
 use Rattle.gopass_base.specs.Text.{Text, IsPrintable}
-use Rattle.mount_table.specs.Names.{parts}
-use Rattle.mount_table.specs.Paths.{IsPathPart, IsFilePath, IsDirPath, path_in}
-use Rattle.mount_table.proofs.JoinLemmas.{path_in_good, parts_join, literal_part, one_part}
+use Rattle.gopass_base.specs.Parts.{parts}
+use Rattle.gopass_base.specs.Paths.{IsPathPart, IsFilePath, IsDirPath, path_in}
+use Rattle.gopass_base.proofs.JoinLemmas.{path_in_good, parts_join, literal_part, one_part}
 use Rattle.pending_journal.specs.Journal.{digit, six_digits, stage_path}
 use Rattle.pending_journal.proofs.ServiceLemmas.{six_parts}
 

@@ -1,7 +1,7 @@
 -- One turn of each loop of a commit and of an opening.
 use Rattle.std.proofs.Common.{◌≡◌, ℕ, ◌+◌, ◌<◌, List, length, get_or, None, Some, refl, sym, ◌∙◌, ap, subst}
 use Rattle.std.proofs.lemmas.Bool.{false≢true}
-use Rattle.gopass_base.specs.Text.{Text}
+use Rattle.gopass_base.specs.Text.{Text, is_among}
 use Rattle.disk_model.specs.Files.{Files, put, moved, Writes, Moves, Drops}
 use Rattle.disk_model.specs.Disk.{View, Steps}
 use Rattle.disk_model.specs.Runs.{Runs}
@@ -11,7 +11,6 @@ use Rattle.pending_journal.specs.declared.put.Put.{Put}
 use Rattle.pending_journal.specs.declared.change.Change.{Change}
 use Rattle.pending_journal.specs.Built.{IsBuilt}
 use Rattle.pending_journal.specs.Change.{plan_in}
-use Rattle.pending_journal.specs.Redo.{is_among}
 use Rattle.pending_journal.specs.Carrying.{IsUnseen, IsOfPlan, IsStaged, IsFetched, IsSameBut}
 use Rattle.pending_journal.proofs.RedoLemmas.{unseen_put, unseen_same, unseen_then, plan_same, plan_then}
 use Rattle.pending_journal.proofs.ChangeLemmas.{moves_of, IsPut, is_put, move_step, staged_more, fetched_more, among_at}

@@ -2,7 +2,7 @@
 use Rattle.std.specs.Prelude.{◌≡◌, ◌≢◌, ◌≤◌, ◌/◌, ◌%◌, ◌+◌, ℕ, false, List, [], ◌∷◌, ◌++◌, length, codes, All, AllPairs, IsTrue}
 use Rattle.std.specs.Str.{is_utf8}
 use Rattle.gopass_base.specs.Text.{Text}
-use Rattle.mount_table.specs.Paths.{IsFilePath, path_in}
+use Rattle.gopass_base.specs.Paths.{IsFilePath, path_in}
 use Rattle.pending_journal.specs.Service.{is_service, stage_dir}
 
 -- what a journal asks for: the files of the stage are moved to the paths of the puts in their order, and the files at the

@@ -9,3 +9,4 @@ pub mod Faults
 pub mod Own
 pub mod Opened
 pub mod Steps
+pub mod Costs

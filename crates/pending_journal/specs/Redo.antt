@@ -1,7 +1,7 @@
 -- What the files that a crash leaves stand for.
-use Rattle.std.specs.Prelude.{◌≡◌, ◌⊎◌, ◌+◌, ℕ, Bool, true, false, ◌||◌, List, [], ◌∷◌, Option, None, Some, bytes_eq, if◌then◌else◌}
+use Rattle.std.specs.Prelude.{◌≡◌, ◌⊎◌, ◌+◌, ℕ, true, ◌||◌, List, [], ◌∷◌, Option, None, Some, bytes_eq, if◌then◌else◌}
 use Rattle.std.specs.Option.{option_or}
-use Rattle.gopass_base.specs.Text.{Text}
+use Rattle.gopass_base.specs.Text.{Text, is_among}
 use Rattle.disk_model.specs.Files.{Files}
 use Rattle.disk_model.specs.Disk.{View, Only}
 use Rattle.pending_journal.specs.Service.{is_service, without_service, journal_path}
@@ -20,10 +20,6 @@ moves_from root i (path ∷ paths) = (stage_path root i, path) ∷ moves_from ro
 abbrev pub source_of : List Move → Text → Option Text
 source_of [] path = None
 source_of (move ∷ moves) path = if bytes_eq move.1 path then Some move.0 else source_of moves path
-
-abbrev pub is_among : List Text → Text → Bool
-is_among [] path = false
-is_among (p ∷ paths) path = bytes_eq p path || is_among paths path
 
 -- the staged file where it is there, and else the file that is here
 abbrev pub brought : Files → Option Text → Option Text → Option Text

@@ -1,8 +1,8 @@
 -- The files that a vault keeps for itself in the root directory.
 use Rattle.std.specs.Prelude.{Bool, false, not, ◌||◌, bytes_eq, codes, filter, List, Option, None, Some, if◌then◌else◌}
 use Rattle.gopass_base.specs.Text.{Text}
-use Rattle.mount_table.specs.Paths.{path_in, service_text}
-use Rattle.mount_table.specs.declared.service.ServiceFile.TheVariants.{Journal}
+use Rattle.gopass_base.specs.Paths.{path_in, service_text}
+use Rattle.gopass_base.specs.declared.service.ServiceFile.TheVariants.{Journal}
 use Rattle.disk_model.specs.Files.{Files}
 use Rattle.disk_model.specs.Listing.{lies_in, rest_in}
 

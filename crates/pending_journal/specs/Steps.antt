@@ -1,8 +1,8 @@
 -- The lines of a journal, one after another.
 use Rattle.std.specs.Prelude.{◌≡◌, ◌⊎◌, [], ◌∷◌, ◌++◌, codes}
 use Rattle.gopass_base.specs.Text.{Text}
-use Rattle.mount_table.specs.declared.path.PathFault.{PathFault}
-use Rattle.mount_table.specs.declared.path.PathFault.TheVariants as path
+use Rattle.gopass_base.specs.declared.path.PathFault.{PathFault}
+use Rattle.gopass_base.specs.declared.path.PathFault.TheVariants as path
 use Rattle.pending_journal.specs.Journal.{JournalPlan, put_lines, drop_lines}
 use Rattle.pending_journal.specs.declared.change.ChangeAddFault.{ChangeAddFault}
 use Rattle.pending_journal.specs.declared.change.ChangeAddFault.TheVariants.{TwoForOne, Service, Long, NoMemory as NoRoom}

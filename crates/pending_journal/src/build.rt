@@ -1,17 +1,17 @@
 //! How a change is built.
 
-ghost use Rattle.std.specs.Prelude.{◌≡◌, ◌++◌, ◌∷◌, [], ◌↔◌, codes, Contains, IfOk, OnOk, OnErr, IsTrue, bytes_eq, string_bytes};
-ghost use Rattle.std.specs.List.{list_any};
+ghost use Rattle.std.specs.Prelude.{◌≡◌, ◌++◌, ◌∷◌, [], ◌↔◌, codes, Contains, false, IfOk, IfErr, OnOk, OnErr, IsTrue, string_bytes};
 ghost use Rattle.pending_journal.specs.Journal.{paths_of, stage_path, digit, six_digits};
+ghost use Rattle.pending_journal.specs.Service.{is_service};
 ghost use Rattle.pending_journal.specs.Change.{plan_in, puts_in, IsSameChange, MayAdd, as_result};
 
 use crate::change::{Change, ChangeAddFault};
-use crate::lines::with_line;
+use crate::lines::add_step;
 use crate::put::Put;
 use crate::service::is_service;
-use gopass_base::NoMemory;
-use mount_table::{DirPath, FilePath, ServiceFile};
+use gopass_base::{DirPath, FilePath, NoMemory, ServiceFile};
 use std::alloc::Global;
+use std::collections::BTreeSet;
 
 /// How many steps a change holds at most.
 const MAX_STEPS: usize = 16_400;
@@ -46,20 +46,6 @@ fn stage_path(alloc: Global, root: &DirPath, i: usize) -> Result<FilePath, NoMem
     root.file_at(alloc, &rest)
 }
 
-/// Whether a put is for the path.
-fn is_put(puts: &[Put], path: &FilePath) -> bool
-    ensures { result ≡ list_any (λ put. bytes_eq put.path path.now) puts.now }
-{
-    puts.iter().any(|put| put.path.text() == path.text())
-}
-
-/// Whether the path is dropped.
-fn is_dropped(drops: &[FilePath], path: &FilePath) -> bool
-    ensures { result ≡ list_any (λ drop. bytes_eq drop path.now) drops.now }
-{
-    drops.iter().any(|drop| drop.text() == path.text())
-}
-
 impl Change {
     /// A change of the store below `root` that asks for nothing yet.
     pub fn new(alloc: Global, root: &DirPath) -> Result<Change, NoMemory>
@@ -75,6 +61,7 @@ impl Change {
             puts_end: 10,
             puts: Vec::new(alloc),
             drops: Vec::new(alloc),
+            paths: BTreeSet::new(alloc),
         })
     }
 
@@ -82,7 +69,7 @@ impl Change {
     fn has_step(&self, path: &FilePath) -> bool
         ensures { IsTrue result ↔ Contains (paths_of (plan_in self.now)) path.now }
     {
-        is_put(&self.puts, path) || is_dropped(&self.drops, path)
+        self.paths.contains(path)
     }
 
     /// Why a step for the path is not added, where it is not.
@@ -100,46 +87,56 @@ impl Change {
         }
     }
 
-    /// Adds that the file under the path has these bytes. Nothing changes where it is refused.
+    /// Adds that the file under the path has these bytes. Nothing changes where it is refused. The
+    /// first step of a change is refused for a path of the vault's own and for want of memory alone.
     pub fn put(&mut self, path: FilePath, bytes: Vec<u8>) -> Result<(), ChangeAddFault>
         ensures may { MayAdd self.old.root (plan_in self.old) path result }
         ensures added { OnOk result (puts_in self.new ≡ puts_in self.old ++ (path, bytes.items) ∷ []) }
         ensures drops { self.new.drops.items ≡ self.old.drops.items }
         ensures root { self.new.root ≡ self.old.root }
         ensures same { OnErr result (IsSameChange self.old self.new) }
+        ensures first { puts_in self.old ≡ [] → self.old.drops.items ≡ [] → is_service self.old.root path ≡ false → IfErr result (λ fault. fault ≡ ChangeAddFault.NoMemory) }
     {
         if let Some(fault) = self.refusal(&path) {
             return Err(fault);
         }
         let alloc = *self.text.allocator();
         let staged = stage_path(alloc, &self.root, self.puts.len())?;
-        let text = with_line(alloc, &self.text, self.puts_end, "put\t", &path)?;
-        let puts_end = self.puts_end + (text.len() - self.text.len());
-        self.puts.push(Put {
+        let before = self.text.len();
+        self.puts.reserve(1)?;
+        add_step(
+            &mut self.text,
+            &mut self.paths,
+            self.puts_end,
+            "put\t",
+            &path,
+        )?;
+        self.puts_end += self.text.len() - before;
+        self.puts.push_reserved(Put {
             staged,
             path,
             bytes,
-        })?;
-        self.text = text;
-        self.puts_end = puts_end;
+        });
         Ok(())
     }
 
-    /// Adds that there is no file under the path. Nothing changes where it is refused.
+    /// Adds that there is no file under the path. Nothing changes where it is refused. What
+    /// is said of the first step at `put` holds here too.
     pub fn erase(&mut self, path: FilePath) -> Result<(), ChangeAddFault>
         ensures may { MayAdd self.old.root (plan_in self.old) path result }
         ensures added { OnOk result (self.new.drops.items ≡ self.old.drops.items ++ path ∷ []) }
         ensures puts { self.new.puts.items ≡ self.old.puts.items }
         ensures root { self.new.root ≡ self.old.root }
         ensures same { OnErr result (IsSameChange self.old self.new) }
+        ensures first { puts_in self.old ≡ [] → self.old.drops.items ≡ [] → is_service self.old.root path ≡ false → IfErr result (λ fault. fault ≡ ChangeAddFault.NoMemory) }
     {
         if let Some(fault) = self.refusal(&path) {
             return Err(fault);
         }
-        let alloc = *self.text.allocator();
-        let text = with_line(alloc, &self.text, self.text.len() - 4, "drop\t", &path)?;
-        self.drops.push(path)?;
-        self.text = text;
+        let end = self.text.len() - 4;
+        self.drops.reserve(1)?;
+        add_step(&mut self.text, &mut self.paths, end, "drop\t", &path)?;
+        self.drops.push_reserved(path);
         Ok(())
     }
 }

@@ -1,22 +1,22 @@
 //! A change of many files.
 
 ghost use Rattle.std.specs.Prelude.{◌≡◌, ◌<◌, ◌-◌};
-ghost use Rattle.pending_journal.specs.Built.{IsBuilt};
+ghost use Rattle.pending_journal.specs.Built.{IsBuilt, ArePaths};
 ghost use Rattle.pending_journal.specs.declared.change.ChangeAddFault.TheVariants.{NoMemory as no_memory};
 
 use crate::put::Put;
-use gopass_base::NoMemory;
-use mount_table::{DirPath, FilePath};
-use std::alloc::AllocFailed;
+use gopass_base::{DirPath, FilePath, NoMemory};
+use std::alloc::{AllocError, Global};
+use std::collections::BTreeSet;
 
 /// Why a step is not added to a change, in this order.
 #[derive(Clone, Copy, Debug, PartialEq, Eq)]
 pub enum ChangeAddFault {
-    /// A step for this path is held already.
+    /// There is a step for this path already.
     TwoForOne,
     /// The path is the vault's own.
     Service,
-    /// 16,400 steps are held.
+    /// There are 16,400 steps already.
     Long,
     NoMemory,
 }
@@ -29,15 +29,19 @@ impl From<NoMemory> for ChangeAddFault {
     }
 }
 
-impl<T: Drop> From<AllocFailed<T>> for ChangeAddFault {
+impl From<AllocError> for ChangeAddFault {
     ghost from_gives = { λ _ e. e ≡ no_memory };
 
-    fn from(_: AllocFailed<T>) -> Self {
+    fn from(_: AllocError) -> Self {
         ChangeAddFault::NoMemory
     }
 }
 
 /// A change of many files, with all that a commit needs: the text of its journal and every path.
+///
+/// A step costs its line and a look-up among the paths, so that many steps are added in near
+/// linear time. A put after drops also moves the lines of all drops: where there are many steps, the
+/// puts are added first.
 #[derive(Debug, Drop)]
 pub struct Change {
     pub(crate) root: DirPath,
@@ -48,5 +52,8 @@ pub struct Change {
     pub(crate) puts_end: usize,
     pub(crate) puts: Vec<Put>,
     pub(crate) drops: Vec<FilePath>,
+    /// The paths of all steps.
+    pub(crate) paths: BTreeSet<FilePath, Global>,
     ghost built: { IsBuilt root journal fresh text.items puts_end puts.items drops.items },
+    ghost paths_are: { ArePaths paths puts.items drops.items },
 }

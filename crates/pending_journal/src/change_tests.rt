@@ -1,5 +1,5 @@
 use crate::change::{Change, ChangeAddFault};
-use mount_table::{DirPath, FilePath};
+use gopass_base::{DirPath, FilePath};
 use std::test::*;
 
 /// A step: whether it is a put, and its path.
@@ -65,26 +65,6 @@ fn a_change_has_the_text_of_its_steps(rt: HostRuntime) -> Result<(), Fail> {
         let change = with_steps(&rt, steps)?;
         assert_eq!(rt; change.text.as_slice(), text.as_bytes());
     }
-    Ok(())
-}
-
-#[test]
-fn stages_are_numbered_from_0(rt: HostRuntime) -> Result<(), Fail> {
-    let mut change = change(&rt)?;
-    for number in 0..12 {
-        let path = format!(in rt.alloc(); "root/s{number}.gpg")?;
-        assert_eq!(rt; step(&rt, &mut change, (true, &path))?, None);
-    }
-    for (number, staged) in [
-        (0, "root/.gopass-stage/000000"),
-        (9, "root/.gopass-stage/000009"),
-        (11, "root/.gopass-stage/000011"),
-    ] {
-        let put = change.puts.get(number);
-        assert_eq!(rt; put.map(|put| put.staged.text()), Some(staged));
-    }
-    assert_eq!(rt; change.journal.text(), "root/.gopass-journal");
-    assert_eq!(rt; change.fresh.text(), "root/.gopass-journal.new");
     Ok(())
 }
 

@@ -55,60 +55,6 @@ fn a_commit_of_a_put_and_a_drop_is_ten_calls(rt: HostRuntime) -> Result<(), Fail
 }
 
 #[test]
-fn a_sealed_journal_outlasts_a_crash(rt: HostRuntime) -> Result<(), Fail> {
-    let alloc = rt.alloc();
-    let disk = after(
-        alloc,
-        &change(alloc, &[("root/a.gpg", "new")], &["root/b.gpg"])?,
-    )?;
-    let left = crashed(alloc, &disk, 11, Pick::None)?;
-    assert!(rt; has(alloc, &left, MOMENTS[2].1)?);
-    Ok(())
-}
-
-type Case = (
-    &'static [File<'static>],
-    &'static [&'static str],
-    u64,
-    &'static str,
-);
-
-/// The puts and drops of a change, the calls of an opening and its commit, and the files behind it.
-const CASES: [Case; 5] = [
-    (&[], &[], 13, "root/a.gpg=old root/b.gpg=b "),
-    (
-        &[("root/c.gpg", "")],
-        &[],
-        15,
-        "root/a.gpg=old root/b.gpg=b root/c.gpg= ",
-    ),
-    (&[], &["root/b.gpg"], 14, "root/a.gpg=old "),
-    (
-        &[],
-        &["root/none.gpg", "w/none"],
-        15,
-        "root/a.gpg=old root/b.gpg=b ",
-    ),
-    (
-        &[("w/z", "1"), ("root/b.gpg", "2"), ("root/.gpg-id", "3")],
-        &["root/c.gpg", "root/a.gpg"],
-        21,
-        "root/.gpg-id=3 root/b.gpg=2 w/z=1 ",
-    ),
-];
-
-#[test]
-fn each_put_is_two_calls_more_and_each_drop_one(rt: HostRuntime) -> Result<(), Fail> {
-    let alloc = rt.alloc();
-    for (puts, drops, steps, files) in CASES {
-        let disk = after(alloc, &change(alloc, puts, drops)?)?;
-        assert!(rt; disk.steps() == steps, "{files}");
-        assert!(rt; has(alloc, &disk, files)?, "{files}");
-    }
-    Ok(())
-}
-
-#[test]
 fn commits_are_counted(rt: HostRuntime) -> Result<(), Fail> {
     let alloc = rt.alloc();
     let mut disk = disk(alloc, FILES)?;

@@ -47,21 +47,6 @@ fn files_after(moment: u64, pick: Pick) -> &'static str {
     }
 }
 
-#[test]
-fn every_crash_of_a_change_opens(rt: HostRuntime) -> Result<(), Fail> {
-    let alloc = rt.alloc();
-    let disk = used(alloc)?;
-    assert!(rt; disk.steps() == 18);
-    for moment in 0..=18 {
-        for pick in PICKS {
-            let left = crashed(alloc, &disk, moment, pick)?;
-            let files = files_after(moment, pick);
-            assert!(rt; opens_with(alloc, left, files)?, "{moment} {pick:?}");
-        }
-    }
-    Ok(())
-}
-
 /// Whether the disk opens with these files, and what every crash of that opening leaves too.
 fn always_opens_with(alloc: Global, disk: MemDisk, files: &str) -> Result<bool, Fail> {
     let disk = opened(alloc, disk)?.into_disk();
@@ -79,6 +64,7 @@ fn always_opens_with(alloc: Global, disk: MemDisk, files: &str) -> Result<bool, 
 fn every_crash_of_an_opening_opens(rt: HostRuntime) -> Result<(), Fail> {
     let alloc = rt.alloc();
     let disk = used(alloc)?;
+    assert!(rt; disk.steps() == 18);
     for moment in 0..=disk.steps() {
         for pick in PICKS {
             let left = crashed(alloc, &disk, moment, pick)?;

@@ -6,7 +6,7 @@ ghost use Rattle.pending_journal.specs.Journal.{JournalPlan, IsJournalPlan, jour
 ghost use Rattle.pending_journal.specs.Redo.{RecoversTo, IsBeforeOrAfter};
 ghost use Rattle.pending_journal.specs.Faults.{HasBadJournal};
 
-use mount_table::DirPath;
+use gopass_base::DirPath;
 
 /// No two plans have one text, so files stand for one state of the files at most.
 pub fn one_meaning(root: &DirPath)

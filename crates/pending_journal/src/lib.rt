@@ -29,6 +29,8 @@ mod commit_tests;
 #[cfg(test)]
 mod crash_tests;
 #[cfg(test)]
+mod limit_tests;
+#[cfg(test)]
 mod opening_tests;
 #[cfg(test)]
 mod read_tests;

@@ -7,19 +7,11 @@ use std::alloc::Global;
 use std::test::*;
 
 /// Journals that do not read, each with its first bad line.
-const BAD: [(&str, usize); 12] = [
+const BAD: [(&str, usize); 4] = [
     ("", 1),
-    ("journal 2\nend\n", 1),
-    ("journal 1", 1),
-    ("journal 1\n", 2),
     ("journal 1\nend", 2),
-    ("journal 1\ndrop\t../x\nend\n", 2),
     ("journal 1\nput\troot/.gopass-stage/000000\nend\n", 2),
-    ("journal 1\nput\troot/a.gpg\n", 3),
-    ("journal 1\nend\nx\n", 3),
-    ("journal 1\nput\troot/a.gpg\nput\troot/a.gpg\nend\n", 3),
     ("journal 1\nput\troot/a.gpg\ndrop\troot/a.gpg\nend\n", 3),
-    ("journal 1\ndrop\troot/b.gpg\nput\troot/a.gpg\nend\n", 3),
 ];
 
 /// The line of the journal for which the opening is refused, and the disk that it hands back.

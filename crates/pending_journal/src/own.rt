@@ -3,8 +3,7 @@
 ghost use Rattle.std.specs.Prelude.{◌≡◌, IfOk};
 ghost use Rattle.pending_journal.specs.Own.{AreVaultPaths};
 
-use gopass_base::NoMemory;
-use mount_table::{DirPath, FilePath, ServiceFile};
+use gopass_base::{DirPath, FilePath, NoMemory, ServiceFile};
 use std::alloc::Global;
 
 /// The root directory, the journal, its new text and the directory of the stage.

@@ -1,6 +1,6 @@
 //! A file that a change writes.
 
-use mount_table::FilePath;
+use gopass_base::FilePath;
 
 /// A file that a change writes: where it is staged, its path and its bytes.
 #[derive(Debug, Drop)]

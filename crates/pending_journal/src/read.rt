@@ -2,7 +2,7 @@
 
 ghost use Rattle.std.specs.Prelude.{◌≡◌, ◌≤◌, ◌+◌, [], length, IfOk, IfErr, OnOk, IsTrue, Err};
 ghost use Rattle.std.specs.Str.{is_utf8};
-ghost use Rattle.mount_table.specs.Paths.{IsFilePath};
+ghost use Rattle.gopass_base.specs.Paths.{IsFilePath};
 ghost use Rattle.pending_journal.specs.Journal.{JournalPlan, IsJournalPlan};
 ghost use Rattle.pending_journal.specs.Change.{plan_in};
 ghost use Rattle.pending_journal.specs.Faults.{RefusesText};
@@ -10,8 +10,7 @@ ghost use Rattle.pending_journal.specs.Steps.{with_put, with_drop, IsStep, journ
 
 use crate::change::{Change, ChangeAddFault};
 use crate::fault::VaultFault;
-use gopass_base::{as_text, cut};
-use mount_table::{DirPath, FilePath, PathFault};
+use gopass_base::{DirPath, FilePath, PathFault, as_text, cut};
 use std::alloc::Global;
 
 /// Why a line is not taken.

@@ -3,7 +3,7 @@
 use crate::change::Change;
 use crate::fault::VaultFault;
 use crate::read::read_journal;
-use mount_table::DirPath;
+use gopass_base::DirPath;
 use std::alloc::{AllocError, Global};
 use std::test::*;
 

@@ -1,25 +1,28 @@
 //! What a vault shows of its files.
 
-ghost use Rattle.std.specs.Prelude.{◌≡◌, ◌≤◌, IfOk, Err, length};
-ghost use Rattle.gopass_base.specs.Faults.{HasCause};
+ghost use Rattle.std.specs.Prelude.{◌≡◌, ◌≤◌, IfOk, IsFalse, true, false, ⊤, Err, length};
+ghost use Rattle.gopass_base.specs.Faults.{Costs, HasCause, counted};
 ghost use Rattle.disk_model.specs.Disk.{Rests};
 ghost use Rattle.disk_model.specs.Answers.{Reads, IsWithin};
 ghost use Rattle.disk_model.specs.Listing.{Lists, IsShort, IsAtMost};
-ghost use Rattle.pending_journal.specs.Service.{others, without_service};
+ghost use Rattle.pending_journal.specs.Service.{is_service, others, without_service};
 ghost use Rattle.pending_journal.specs.Opened.{IsSameVault};
 
 use crate::service::is_service;
 use crate::vault::Vault;
 use disk_model::{Disk, DiskFault, Got, Listed};
-use mount_table::{DirPath, FilePath};
+use gopass_base::{DirPath, FilePath};
 
 impl<D: Disk> Vault<D> {
-    /// The file under the path, where it has at most `max` bytes. The vault's own files are absent.
+    /// The file under the path, where it has at most `max` bytes, in one call of the disk. The vault's
+    /// own files are absent, and the disk is not asked for them.
     pub fn read(&mut self, path: &FilePath, max: usize) -> Result<Got, DiskFault>
         ensures kept { IsSameVault self.old self.new }
         ensures rests { D.meaning.tells → Rests (D.meaning.view self.old.disk) (D.meaning.view self.new.disk) }
         ensures got { IfOk result (λ got. D.meaning.tells → Reads (without_service self.old.root (D.meaning.view self.old.disk).files path.now) max got) }
         ensures bound { IfOk result (IsWithin max) }
+        ensures costs { Costs 1 (D.meaning.calls self.old.disk) (D.meaning.calls self.new.disk) (is_service self.old.root path.now ≡ false) }
+        ensures own { is_service self.old.root path.now ≡ true → self.new.disk ≡ self.old.disk }
         ensures cause { HasCause (D.meaning.faults self.old.disk) (D.meaning.faults self.new.disk) (result ≡ Err DiskFault.Failed) }
     {
         if is_service(&self.root, path) {
@@ -29,12 +32,14 @@ impl<D: Disk> Vault<D> {
     }
 
     /// The paths of all files below the directory but the vault's own, where there are at most
-    /// `max`, as `Disk::list` gives them.
+    /// `max`, as `Disk::list` gives them. It is one call of the disk, or two where the vault is stuck.
     pub fn list(&mut self, dir: &FilePath, max: usize) -> Result<Listed, DiskFault>
         ensures kept { IsSameVault self.old self.new }
         ensures rests { D.meaning.tells → Rests (D.meaning.view self.old.disk) (D.meaning.view self.new.disk) }
         ensures listed { IfOk result (λ listed. D.meaning.tells → Lists (without_service self.old.root (D.meaning.view self.old.disk).files) dir.now max listed) }
         ensures bound { IfOk result (IsShort max) }
+        ensures costs { IsFalse self.old.stuck → Costs 1 (D.meaning.calls self.old.disk) (D.meaning.calls self.new.disk) ⊤ }
+        ensures most { Costs 2 (D.meaning.calls self.old.disk) (D.meaning.calls self.new.disk) ⊥ }
         ensures cause { HasCause (D.meaning.faults self.old.disk) (D.meaning.faults self.new.disk) (result ≡ Err DiskFault.Failed) }
     {
         match self.disk.list(dir, max)? {
@@ -51,11 +56,13 @@ impl<D: Disk> Vault<D> {
         ensures rests { D.meaning.tells → Rests (D.meaning.view self.old.disk) (D.meaning.view self.new.disk) }
         ensures listed { IfOk result (λ listed. D.meaning.tells → Lists (without_service self.old.root (D.meaning.view self.old.disk).files) dir.now max listed) }
         ensures bound { IfOk result (IsShort max) }
+        ensures counted { D.meaning.calls self.new.disk ≡ counted (D.meaning.calls self.old.disk) }
+        ensures later { D.meaning.calls self.old.disk ≤ D.meaning.calls self.new.disk }
         ensures cause { HasCause (D.meaning.faults self.old.disk) (D.meaning.faults self.new.disk) (result ≡ Err DiskFault.Failed) }
     {
         match self.disk.list(dir, usize::MAX)? {
             Listed::All(paths) => Ok(at_most(others(&self.root, paths), max)),
-            Listed::Many => Err(DiskFault::NoMemory),
+            Listed::Many => unreachable!(),
         }
     }
 }
@@ -72,7 +79,8 @@ fn others(root: &DirPath, paths: Vec<FilePath>) -> Vec<FilePath>
 
 /// The paths, where there are at most `max`.
 fn at_most(paths: Vec<FilePath>, max: usize) -> Listed
-    ensures { IsAtMost paths.items max result }
+    ensures content { IsAtMost paths.items max result }
+    ensures short { IsShort max result }
 {
     if paths.len() <= max {
         Listed::All(paths)

@@ -1,13 +1,18 @@
 //! What a crash left is made whole.
 
-ghost use Rattle.std.specs.Prelude.{◌≡◌, None, Some, MatchOption, IfOk, IfErr, OnOk, Err};
-ghost use Rattle.gopass_base.specs.Faults.{HasCause};
-ghost use Rattle.disk_model.specs.Disk.{Rests, Only};
+ghost use Rattle.std.specs.Prelude.{◌≡◌, ◌≤◌, ◌+◌, ℕ, List, length, ⊤, None, Some, MatchOption, IfOk, IfErr, IsOk, IsTrue, IsFalse, OnOk, OnErr, Err};
+ghost use Rattle.gopass_base.specs.Faults.{Costs, HasCause, counted};
+ghost use Rattle.disk_model.specs.Disk.{Rests, Syncs, Only};
+ghost use Rattle.gopass_base.specs.Text.{Text};
+ghost use Rattle.disk_model.specs.Listing.{IsListing};
 ghost use Rattle.disk_model.specs.Runs.{Runs, Leaves};
+ghost use Rattle.pending_journal.specs.Service.{stage_dir};
 ghost use Rattle.pending_journal.specs.Redo.{RecoversTo, IsAlike, IsAtRest};
 ghost use Rattle.pending_journal.specs.Carrying.{IsUnseen};
+ghost use Rattle.pending_journal.specs.Change.{plan_in};
 ghost use Rattle.pending_journal.specs.Recovery.{IsOldOrAlike, IsSameOrAlike, IsUntouched, IsMended, IsCleared};
-ghost use Rattle.pending_journal.specs.Faults.{RefusesVault};
+ghost use Rattle.pending_journal.specs.Faults.{RefusesVault, HasBadJournal};
+ghost use Rattle.pending_journal.specs.Costs.{IsMovedFrom, MendTakes, IsMendedIn, IsClearedIn, IsOpenedIn, IsNoMore};
 
 use crate::change::Change;
 use crate::commit::{finish, remove_all, settle};
@@ -15,22 +20,27 @@ use crate::fault::VaultFault;
 use crate::own::{OwnPaths, own_paths};
 use crate::read::read_journal;
 use disk_model::{Disk, DiskFault, Got, Listed};
-use mount_table::DirPath;
+use gopass_base::DirPath;
 use std::alloc::Global;
 
 /// How many bytes a journal has at most.
 const MAX_JOURNAL: usize = 20_000_000;
 
-/// The change of the journal, where one is there.
+/// The change of the journal, where one is there, of at most 20,000,000 bytes.
 fn find_journal<D: Disk>(
     alloc: Global,
     disk: &mut D,
     own: &OwnPaths,
 ) -> Result<Option<Change>, VaultFault>
+    requires held { IsTrue (D.meaning.held disk.old) }
     ensures rests { D.meaning.tells → Rests (D.meaning.view disk.old) (D.meaning.view disk.new) }
     ensures found { IfOk result (λ found. MatchOption found (D.meaning.tells → (D.meaning.view disk.old).files own.now.journal ≡ None)
         (λ change. (change.root ≡ own.now.root) × (D.meaning.tells → (D.meaning.view disk.old).files own.now.journal ≡ Some change.text.items))) }
+    ensures bound { IfOk result (λ found. MatchOption found ⊤ (λ change. length change.text.items ≤ 20000000)) }
     ensures refuses { IfErr result (λ fault. D.meaning.tells → RefusesVault own.now.root (D.meaning.view disk.old).files fault) }
+    ensures held { D.meaning.held disk.new ≡ D.meaning.held disk.old }
+    ensures counted { D.meaning.calls disk.new ≡ counted (D.meaning.calls disk.old) }
+    ensures later { D.meaning.calls disk.old ≤ D.meaning.calls disk.new }
     ensures cause { HasCause (D.meaning.faults disk.old) (D.meaning.faults disk.new) (result ≡ Err VaultFault.Disk) }
 {
     match disk.read(&own.journal, MAX_JOURNAL)? {
@@ -42,9 +52,13 @@ fn find_journal<D: Disk>(
 
 /// Makes the change of a journal that is there, and takes the journal away.
 fn redo<D: Disk>(disk: &mut D, change: &Change) -> Result<(), DiskFault>
-    requires { D.meaning.tells → ((D.meaning.view disk.old).files change.now.journal ≡ Some change.now.text.items) × Only (D.meaning.view disk.old).files (D.meaning.view disk.old) }
+    requires held { IsTrue (D.meaning.held disk.old) }
+    requires sealed { D.meaning.tells → ((D.meaning.view disk.old).files change.now.journal ≡ Some change.now.text.items) × Only (D.meaning.view disk.old).files (D.meaning.view disk.old) }
     ensures alike { D.meaning.tells → Leaves (IsAlike change.now.root (D.meaning.view disk.old).files) (D.meaning.view disk.old) (D.meaning.view disk.new) }
     ensures mended { OnOk result (D.meaning.tells → IsMended change.now.root (D.meaning.view disk.old).files (D.meaning.view disk.new)) }
+    ensures moved { OnOk result (D.meaning.tells → IsMovedFrom change.now.root (plan_in change.now).puts (D.meaning.view disk.old).files (D.meaning.view disk.new).files) }
+    ensures held { D.meaning.held disk.new ≡ D.meaning.held disk.old }
+    ensures costs { Costs (length change.now.puts.items + length change.now.drops.items + 3) (D.meaning.calls disk.old) (D.meaning.calls disk.new) (IsOk result) }
     ensures cause { HasCause (D.meaning.faults disk.old) (D.meaning.faults disk.new) (result ≡ Err DiskFault.Failed) }
 {
     settle(disk, change)?;
@@ -53,11 +67,18 @@ fn redo<D: Disk>(disk: &mut D, change: &Change) -> Result<(), DiskFault>
 
 /// Makes the change of the journal, where one is there.
 fn mend<D: Disk>(alloc: Global, disk: &mut D, own: &OwnPaths) -> Result<(), VaultFault>
-    requires { D.meaning.tells → Only (D.meaning.view disk.old).files (D.meaning.view disk.old) }
+    requires held { IsTrue (D.meaning.held disk.old) }
+    requires only { D.meaning.tells → Only (D.meaning.view disk.old).files (D.meaning.view disk.old) }
     ensures alike { D.meaning.tells → Leaves (IsSameOrAlike own.now.root (D.meaning.view disk.old).files) (D.meaning.view disk.old) (D.meaning.view disk.new) }
     ensures mended { OnOk result (D.meaning.tells → IsMended own.now.root (D.meaning.view disk.old).files (D.meaning.view disk.new)) }
     ensures refuses { IfErr result (λ fault. D.meaning.tells → RefusesVault own.now.root (D.meaning.view disk.old).files fault) }
     ensures untouched { (n : _) → result ≡ Err (VaultFault.BadJournal n) → D.meaning.tells → IsUntouched (D.meaning.view disk.old) (D.meaning.view disk.new) }
+    ensures held { D.meaning.held disk.new ≡ D.meaning.held disk.old }
+    ensures costs { OnOk result (D.meaning.tells → IsMendedIn own.now.root (D.meaning.view disk.old).files (D.meaning.view disk.new).files (D.meaning.calls disk.old) (D.meaning.calls disk.new)) }
+    ensures few { OnErr result (D.meaning.tells → (n : ℕ) → MendTakes own.now.root ((D.meaning.view disk.old).files own.now.journal) n → Costs n (D.meaning.calls disk.old) (D.meaning.calls disk.new) ⊥) }
+    ensures bad { OnErr result (D.meaning.tells → HasBadJournal own.now.root (D.meaning.view disk.old).files → Costs 1 (D.meaning.calls disk.old) (D.meaning.calls disk.new) ⊥) }
+    ensures counted { (k : _) → result ≡ Err (VaultFault.BadJournal k) → D.meaning.calls disk.new ≡ counted (D.meaning.calls disk.old) }
+    ensures later { D.meaning.calls disk.old ≤ D.meaning.calls disk.new }
     ensures cause { HasCause (D.meaning.faults disk.old) (D.meaning.faults disk.new) (result ≡ Err VaultFault.Disk) }
 {
     match find_journal(alloc, disk, own)? {
@@ -68,9 +89,13 @@ fn mend<D: Disk>(alloc: Global, disk: &mut D, own: &OwnPaths) -> Result<(), Vaul
 
 /// Takes the vault's own files away but the journal, and syncs.
 fn clear<D: Disk>(disk: &mut D, own: &OwnPaths) -> Result<(), DiskFault>
+    requires { IsTrue (D.meaning.held disk.old) }
     ensures runs { D.meaning.tells → Runs (IsUnseen own.now.root) (D.meaning.view disk.old) (D.meaning.view disk.new) }
     ensures cleared { OnOk result (D.meaning.tells → IsCleared own.now.root (D.meaning.view disk.new).files) }
     ensures only { OnOk result (D.meaning.tells → Only (D.meaning.view disk.new).files (D.meaning.view disk.new)) }
+    ensures held { D.meaning.held disk.new ≡ D.meaning.held disk.old }
+    ensures costs { OnOk result (D.meaning.tells → IsClearedIn own.now.root (D.meaning.view disk.old).files (D.meaning.calls disk.old) (D.meaning.calls disk.new)) }
+    ensures few { OnErr result (D.meaning.tells → (left : List Text) → IsListing (D.meaning.view disk.old).files (stage_dir own.now.root) left → Costs (length left + 3) (D.meaning.calls disk.old) (D.meaning.calls disk.new) ⊥) }
     ensures cause { HasCause (D.meaning.faults disk.old) (D.meaning.faults disk.new) (result ≡ Err DiskFault.Failed) }
 {
     disk.remove(&own.fresh)?;
@@ -79,8 +104,22 @@ fn clear<D: Disk>(disk: &mut D, own: &OwnPaths) -> Result<(), DiskFault>
             remove_all(disk, &paths)?;
             disk.sync()
         }
-        Listed::Many => Err(DiskFault::NoMemory),
+        Listed::Many => unreachable!(),
     }
+}
+
+/// Makes what an earlier program left unsynced outlast a crash. Like all that an opening does but to
+/// ask for the lock, it wants the lock.
+fn sync<D: Disk>(disk: &mut D) -> Result<(), DiskFault>
+    requires held { IsTrue (D.meaning.held disk.old) }
+    ensures syncs { D.meaning.tells → Syncs (D.meaning.view disk.old) (D.meaning.view disk.new) }
+    ensures only { OnOk result (D.meaning.tells → Only (D.meaning.view disk.old).files (D.meaning.view disk.new)) }
+    ensures held { D.meaning.held disk.new ≡ D.meaning.held disk.old }
+    ensures counted { D.meaning.calls disk.new ≡ counted (D.meaning.calls disk.old) }
+    ensures later { D.meaning.calls disk.old ≤ D.meaning.calls disk.new }
+    ensures cause { HasCause (D.meaning.faults disk.old) (D.meaning.faults disk.new) (result ≡ Err DiskFault.Failed) }
+{
+    disk.sync()
 }
 
 /// Makes what a crash left whole, and gives the root directory once more.
@@ -95,11 +134,17 @@ pub(crate) fn recover<D: Disk>(
     ensures stands { OnOk result (D.meaning.tells → RecoversTo root.now (D.meaning.view disk.old).files (D.meaning.view disk.new).files) }
     ensures refuses { IfErr result (λ fault. D.meaning.tells → RefusesVault root.now (D.meaning.view disk.old).files fault) }
     ensures untouched { (n : _) → result ≡ Err (VaultFault.BadJournal n) → D.meaning.tells → IsUntouched (D.meaning.view disk.old) (D.meaning.view disk.new) }
+    ensures held { OnOk result (IsTrue (D.meaning.held disk.new)) }
+    ensures costs { OnOk result (D.meaning.tells → IsOpenedIn root.now (D.meaning.view disk.old).files (D.meaning.calls disk.old) (D.meaning.calls disk.new)) }
+    ensures few { OnErr result (D.meaning.tells → IsNoMore root.now (D.meaning.view disk.old).files (D.meaning.calls disk.old) (D.meaning.calls disk.new)) }
+    ensures bad { OnErr result (D.meaning.tells → HasBadJournal root.now (D.meaning.view disk.old).files → Costs 3 (D.meaning.calls disk.old) (D.meaning.calls disk.new) ⊥) }
+    ensures three { (k : _) → result ≡ Err (VaultFault.BadJournal k) → Costs 3 (D.meaning.calls disk.old) (D.meaning.calls disk.new) ⊤ }
+    ensures unlocked { OnErr result (IsFalse (D.meaning.held disk.new) → Costs 1 (D.meaning.calls disk.old) (D.meaning.calls disk.new) ⊥ × (D.meaning.tells → Rests (D.meaning.view disk.old) (D.meaning.view disk.new))) }
     ensures cause { HasCause (D.meaning.faults disk.old) (D.meaning.faults disk.new) (result ≡ Err VaultFault.Disk) }
 {
     let own = own_paths(alloc, root)?;
     disk.hold()?;
-    disk.sync()?;
+    sync(disk)?;
     mend(alloc, disk, &own)?;
     clear(disk, &own)?;
     let OwnPaths { root, .. } = own;

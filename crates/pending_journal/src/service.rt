@@ -4,7 +4,7 @@ ghost use Rattle.std.specs.Prelude.{◌≡◌};
 ghost use Rattle.pending_journal.specs.Service.{is_service};
 
 use disk_model::{lies_in, rest_in};
-use mount_table::{DirPath, FilePath};
+use gopass_base::{DirPath, FilePath};
 
 /// Whether the path is the journal's, that of its new text, or one in the stage.
 pub(crate) fn is_service(root: &DirPath, path: &FilePath) -> bool

@@ -1,8 +1,9 @@
 //! What a vault shows of its files, and what the tests of commits and openings share.
 
+use crate::put::Put;
 use crate::{Change, CommitFault, Vault, VaultOpened};
-use disk_model::{Disk, DiskFault, Got, Listed, MemDisk, Pick};
-use mount_table::{DirPath, FilePath};
+use disk_model::{Disk, Got, Listed, MemDisk, Pick};
+use gopass_base::{DirPath, FilePath};
 use std::alloc::Global;
 use std::test::*;
 
@@ -184,17 +185,18 @@ fn a_vault_reads_all_files_but_its_own(rt: HostRuntime) -> Result<(), Fail> {
     Ok(())
 }
 
+fn is_send<T: Send>() {}
+
+fn vaults_are_send<D: Disk + Send>() {
+    is_send::<Vault<D>>();
+    is_send::<VaultOpened<D>>();
+}
+
+/// That a vault, where its disk may, and a change may go to another thread is told by the types.
 #[test]
-fn a_failing_reading_is_handed_on(rt: HostRuntime) -> Result<(), Fail> {
-    let alloc = rt.alloc();
-    let mut disk = disk(alloc, &[("root/a.gpg", "a")])?;
-    disk.fail_at(vec![in alloc; 6u64, 8]?);
-    let mut vault = opened(alloc, disk)?;
-    let root = path(alloc, "root")?;
-    assert!(rt; matches!(vault.list(&root, 9), Err(DiskFault::Failed)));
-    assert!(rt; vault.list(&root, 9).is_ok());
-    assert!(rt; matches!(vault.read(&root, 9), Err(DiskFault::Failed)));
-    assert!(rt; matches!(vault.read(&root, 9), Ok(Got::Absent)));
-    assert!(rt; !vault.is_stuck());
+fn values_are_send(_: HostRuntime) -> Result<(), Fail> {
+    vaults_are_send::<MemDisk>();
+    is_send::<Change>();
+    is_send::<Put>();
     Ok(())
 }

@@ -1,7 +1,7 @@
 //! A disk whose changes are whole.
 
-ghost use Rattle.std.specs.Prelude.{◌≡◌, ◌↔◌, is_err, IsTrue, IsFalse, OnOk, OnErr, Err};
-ghost use Rattle.gopass_base.specs.Faults.{HasCause, counted};
+ghost use Rattle.std.specs.Prelude.{◌≡◌, ◌↔◌, ◌+◌, ◌*◌, length, is_err, IsTrue, IsFalse, IsOk, OnOk, OnErr, Err};
+ghost use Rattle.gopass_base.specs.Faults.{Costs, HasCause, counted};
 ghost use Rattle.disk_model.specs.Disk.{IsDurable};
 ghost use Rattle.disk_model.specs.Runs.{Leaves};
 ghost use Rattle.pending_journal.specs.Redo.{IsAtRest, IsBeforeOrAfter};
@@ -10,7 +10,7 @@ ghost use Rattle.pending_journal.specs.Change.{changed};
 use crate::change::Change;
 use crate::commit::carry_out;
 use disk_model::{Disk, DiskFault};
-use mount_table::DirPath;
+use gopass_base::DirPath;
 
 /// Why a change was not committed.
 #[derive(Clone, Copy, Debug, PartialEq, Eq)]
@@ -23,14 +23,15 @@ pub enum CommitFault {
     NoMemory,
 }
 
-/// The files of a store, below a root directory of a disk. Where no commit failed they are the only
-/// image, and none of the vault's own files is there.
+/// The files of a store, below a root directory of a disk whose lock is had. Where no commit failed
+/// they are the only image, and none of the vault's own files is there.
 #[derive(Drop)]
 pub struct Vault<D: Disk> {
     pub(crate) disk: D,
     pub(crate) root: DirPath,
     pub(crate) commits: u64,
     pub(crate) stuck: bool,
+    ghost is_held: { IsTrue (D.meaning.held disk) },
     ghost at_rest: { IsFalse stuck → D.meaning.tells → IsAtRest root (D.meaning.view disk) },
 }
 
@@ -64,8 +65,9 @@ impl<D: Disk> Vault<D> {
         self.stuck
     }
 
-    /// Makes the change, which was built for the vault's root, whole or not at all. After `Disk` and
-    /// `NoMemory` the vault is stuck and answers `Stuck`: its disk is to be opened again.
+    /// Makes the change, which was built for the vault's root, whole or not at all: in two calls of
+    /// the disk for each put, one for each drop, and seven. After `Disk` and `NoMemory` the vault is
+    /// stuck and answers `Stuck`: its disk is to be opened again.
     pub fn commit(&mut self, change: &Change) -> Result<(), CommitFault>
         requires { change.now.root ≡ self.old.root }
         ensures made { OnOk result (D.meaning.tells → IsDurable (changed change.now (D.meaning.view self.old.disk).files) (D.meaning.view self.new.disk)) }
@@ -77,6 +79,7 @@ impl<D: Disk> Vault<D> {
         ensures was_stuck { result ≡ Err CommitFault.Stuck ↔ IsTrue self.old.stuck }
         ensures is_stuck { self.new.stuck ≡ is_err result }
         ensures root { self.new.root ≡ self.old.root }
+        ensures costs { Costs (2 * length change.now.puts.items + length change.now.drops.items + 7) (D.meaning.calls self.old.disk) (D.meaning.calls self.new.disk) (IsOk result) }
         ensures cause { HasCause (D.meaning.faults self.old.disk) (D.meaning.faults self.new.disk) (result ≡ Err CommitFault.Disk) }
     {
         if self.stuck {

@@ -1,6 +1,6 @@
 use Rattle.std.proofs.Common.{◌≡◌, IfOk, subst, ◌∙◌, ap, sym}
 use Rattle.gopass_base.specs.Text.{Text}
-use Rattle.mount_table.specs.Paths.{IsFilePath, path_in}
+use Rattle.gopass_base.specs.Paths.{IsFilePath, path_in}
 use Rattle.pending_journal.proofs.StageLemmas.{stage_good, stage_path_is}
 use Rattle.pending_journal.proofs.build.stage_path.Goals as goal
 

@@ -1,9 +1,10 @@
-use Rattle.std.proofs.Common.{None, subst}
+use Rattle.std.proofs.Common.{arith, None, subst}
 use Rattle.disk_model.specs.Files.{Files, put}
 use Rattle.disk_model.specs.Disk.{IsDurable}
 use Rattle.pending_journal.specs.Redo.{IsAtRest}
 use Rattle.pending_journal.specs.Change.{changed}
 use Rattle.pending_journal.proofs.CommitLemmas.{after_prepare, after_seal, after_settle, after_finish, is_changed, rests_from, on_ok_then}
+use Rattle.pending_journal.proofs.CostLemmas.{costs_next, costs_is, costs_err}
 use Rattle.pending_journal.proofs.commit.carry_out.Goals as goal
 
 pub returns-in_err-prepare-clause-any_moment : goal.returns-in_err-prepare-clause-any_moment
@@ -80,3 +81,15 @@ returns-clause-at_rest g c = on_ok_then c.finish.result c.finish.ensures.ended (
         let is = is_changed root c.args.change.now c.args.change.now.built v0 (c.requires.rests told) v1 (c.in_ok-prepare.ensures.ready told) v2 (c.in_ok-seal.ensures.sealed told) v3
         (g.met.D.Disk.sound c.settle.new.disk told) (c.settle.ensures.runs told) (c.in_ok-settle.ensures.carried told) in
         rests_from root c.args.change.now c.args.change.now.built v0.files (g.D.Disk.meaning.view c.finish.new.disk) (c.requires.rests told).none (subst (λ (f : Files). IsDurable f (g.D.Disk.meaning.view c.finish.new.disk)) is (ended told))
+
+pub returns-in_err-prepare-clause-costs : goal.returns-in_err-prepare-clause-costs
+returns-in_err-prepare-clause-costs g c = costs_err c.from_residual.result c.from_residual.ensures.0 (omega arith) c.prepare.ensures.costs
+
+pub returns-in_err-seal-clause-costs : goal.returns-in_err-seal-clause-costs
+returns-in_err-seal-clause-costs g c = costs_err c.from_residual-in_err-seal.result c.from_residual-in_err-seal.ensures.0 (omega arith) (costs_next c.in_ok-prepare.ensures.costs c.seal.ensures.costs)
+
+pub returns-in_err-settle-clause-costs : goal.returns-in_err-settle-clause-costs
+returns-in_err-settle-clause-costs g c = costs_err c.from_residual-in_err-settle.result c.from_residual-in_err-settle.ensures.0 (omega arith) (costs_next (costs_next c.in_ok-prepare.ensures.costs c.in_ok-seal.ensures.costs) c.settle.ensures.costs)
+
+pub returns-clause-costs : goal.returns-clause-costs
+returns-clause-costs g c = costs_is (omega arith) (λ t. t) (costs_next (costs_next (costs_next c.in_ok-prepare.ensures.costs c.in_ok-seal.ensures.costs) c.in_ok-settle.ensures.costs) c.finish.ensures.costs)

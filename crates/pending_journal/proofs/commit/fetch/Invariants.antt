@@ -1,6 +1,7 @@
 use Rattle.std.proofs.Common.{◌≡◌}
-use Rattle.pending_journal.specs.Carrying.{IsOfPlan}
-use Rattle.pending_journal.specs.Carrying.{IsFetched}
+use Rattle.std.specs.Prelude.{⊤}
+use Rattle.gopass_base.specs.Faults.{Costs}
+use Rattle.pending_journal.specs.Carrying.{IsOfPlan, IsFetched}
 use Rattle.pending_journal.specs.Change.{plan_in}
 use Rattle.disk_model.specs.Runs.{Runs}
 use Rattle.pending_journal.proofs.commit.fetch.Given as goal
@@ -12,4 +13,6 @@ invariant-loop-put g l =
       runs : g.D.Disk.meaning.tells → Runs (IsOfPlan l.change.root (plan_in l.change)) (view l.fn.disk) (view l.disk);
       fetched : g.D.Disk.meaning.tells → IsFetched l.change l.put-index (view l.fn.disk).files (view l.disk).files;
       faults : g.D.Disk.meaning.faults l.disk ≡ g.D.Disk.meaning.faults l.fn.disk;
+      held : g.D.Disk.meaning.held l.disk ≡ g.D.Disk.meaning.held l.fn.disk;
+      costs : Costs l.put-index (g.D.Disk.meaning.calls l.fn.disk) (g.D.Disk.meaning.calls l.disk) ⊤;
     }

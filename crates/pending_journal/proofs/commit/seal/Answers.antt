@@ -1,7 +1,8 @@
-use Rattle.std.proofs.Common.{◌∙◌, ap}
+use Rattle.std.proofs.Common.{arith, true, ◌≡◌, ◌∙◌, ap}
 use Rattle.disk_model.specs.Files.{moved, Moves}
 use Rattle.pending_journal.specs.Carrying.{IsEither}
 use Rattle.pending_journal.proofs.CommitLemmas.{either_step, synced, stands_from, on_ok_then}
+use Rattle.pending_journal.proofs.CostLemmas.{costs_one, costs_next, costs_err}
 use Rattle.pending_journal.proofs.commit.seal.Goals as goal
 
 pub returns-in_err-rename-clause-leaves : goal.returns-in_err-rename-clause-leaves
@@ -19,3 +20,9 @@ returns-clause-leaves g c told only =
 
 pub returns-clause-sealed : goal.returns-clause-sealed
 returns-clause-sealed g c = on_ok_then c.sync.result c.sync.ensures.only (λ only told. stands_from _ _ _ (c.in_ok-rename.ensures.made told).files (c.sync.ensures.syncs told) (only told))
+
+pub returns-in_err-rename-clause-costs : goal.returns-in_err-rename-clause-costs
+returns-in_err-rename-clause-costs g c = costs_err c.from_residual.result c.from_residual.ensures.0 (omega arith) (costs_one {P = true ≡ true} c.rename.ensures.counted c.rename.ensures.later)
+
+pub returns-clause-costs : goal.returns-clause-costs
+returns-clause-costs g c = costs_next (costs_one c.rename.ensures.counted c.rename.ensures.later) (costs_one c.sync.ensures.counted c.sync.ensures.later)

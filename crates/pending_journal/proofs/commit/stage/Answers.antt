@@ -1,6 +1,8 @@
 use Rattle.std.proofs.Common.{rules, ◌≡◌, ◌<◌, List, length, get_or, Some, ◌∙◌, ap, arith}
 use Rattle.disk_model.specs.Files.{put}
+use Rattle.std.specs.Prelude.{⊤}
 use Rattle.pending_journal.specs.declared.put.Put.{Put}
+use Rattle.pending_journal.proofs.CostLemmas.{costs_one, costs_then, costs_is, costs_err}
 use Rattle.pending_journal.proofs.TurnLemmas.{stage_runs, stage_files}
 use Rattle.pending_journal.proofs.commit.stage.Goals as goal
 
@@ -25,4 +27,12 @@ loop-put-preserved g c =
       staged = λ told. stage_files c.args.change.now.root c.args.change.now c.args.change.now.built i p is lt _ _ _ (c.loop-put.invariant.staged told)
           ((c.in_ok-write.ensures.made told).files ∙ ap (λ b. put (g.D.Disk.meaning.view c.loop-put.disk).files p.staged (Some b)) c.deref.ensures.value);
       faults = search rules;
+      held = c.write.ensures.held ∙ c.loop-put.invariant.held;
+      costs = costs_is (omega arith) (λ t. t) (costs_then (λ t. t) (λ t. t) c.loop-put.invariant.costs (costs_one c.write.ensures.counted c.write.ensures.later));
     }
+
+pub returns-in_err-write-clause-costs : goal.returns-in_err-write-clause-costs
+returns-in_err-write-clause-costs g c = costs_err c.from_residual.result c.from_residual.ensures.0 (omega (arith, ap length c.deref-put-items.ensures.value)) (costs_then (λ t. t) (λ t. t) c.loop-put.invariant.costs (costs_one {P = ⊤} c.write.ensures.counted c.write.ensures.later))
+
+pub returns-clause-costs : goal.returns-clause-costs
+returns-clause-costs g c = costs_is (omega (arith, ap length c.deref-put-items.ensures.value)) (λ t. tt) c.loop-put.invariant.costs

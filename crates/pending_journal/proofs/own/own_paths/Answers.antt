@@ -1,6 +1,6 @@
 use Rattle.std.proofs.Common.{◌∙◌, ap, sym, codes}
 use Rattle.gopass_base.specs.Text.{Text}
-use Rattle.mount_table.specs.Paths.{path_in}
+use Rattle.gopass_base.specs.Paths.{path_in}
 use Rattle.pending_journal.proofs.StageLemmas.{fresh_good, stage_dir_good}
 use Rattle.pending_journal.proofs.own.own_paths.Goals as goal
 

@@ -1,9 +1,9 @@
-use Rattle.pending_journal.proofs.BuildLemmas.{put_held, drop_held}
+use Rattle.std.proofs.Common.{sym, ◌∙◌}
+use Rattle.pending_journal.proofs.BuildLemmas.{step_named}
 use Rattle.pending_journal.proofs.change.Change.has_step.Goals as goal
 
-pub returns-then-is_put : goal.returns-then-is_put
-returns-then-is_put c = put_held c.args.self.now.puts.items _ c.args.self.now.drops.items c.args.self.now.drops.items c.args.path.now _ c.deref.ensures.value c.is_put.ensures c.if-is_put.true
-
-pub returns-else-is_put : goal.returns-else-is_put
-returns-else-is_put c =
-    drop_held c.args.self.now.puts.items _ c.args.self.now.drops.items _ c.args.path.now _ c.deref.ensures.value c.is_put.ensures _ c.if-is_put.false c.deref-else-is_put.ensures.value c.is_dropped.ensures
+pub returns : goal.returns
+returns c =
+    let old = c.args.self.now in
+    let same = step_named old.paths old.puts.items old.drops.items c.args.path.now old.paths_are in
+    (λ t. same.0 (sym c.contains.ensures ∙ t), λ has. c.contains.ensures ∙ same.1 has)
