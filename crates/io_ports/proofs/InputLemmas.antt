@@ -1,101 +1,77 @@
 -- What came of a source, take after take.
-use Rattle.std.proofs.Common.{ℕ, ◌+◌, ◌-◌, ◌<◌, ◌≤◌, ◌≡◌, ◌≢◌, ◌++◌, ◌∷◌, [], length, take, drop, cond, Bool, eqb, true, false, Option, Some, None, Ok, Err, Vec, refl, sym, ◌∙◌, ap, subst, arith, ne_eqb, length-append, inl, inr, Global, ◌↔◌}
-use Rattle.std.proofs.lemmas.List.{append_assoc, append-nil, length-take-le}
+use Rattle.std.proofs.Common.{ℕ, ◌+◌, ◌≤◌, ◌≡◌, ◌≢◌, ◌++◌, ◌∷◌, [], length, take, drop, cond, Bool, eqb, true, false, Option, Some, None, Ok, Err, Vec, refl, sym, ◌∙◌, ap, subst, arith, ne_eqb, length-append, take-append-drop, inl, inr, Global, ◌↔◌, ◌⊎◌}
+use Rattle.std.proofs.Math.Seq.{take-append-add, drop-append-add, drop-append_seam}
+use Rattle.std.proofs.lemmas.List.{append_assoc, append-nil, length-take, length-take-le, take_all, drop_all}
 use Rattle.std.proofs.lemmas.Bool.Decides.{eqb_tells}
 use Rattle.std.proofs.lemmas.List.Elements.{All-nil, All-cons, All-head, All-tail}
 use Rattle.gopass_base.proofs.LineLemmas.{both, cut_is}
 use Rattle.gopass_base.specs.Text.{Text}
-use Rattle.gopass_base.specs.Lines.{Lacks, cut_at, with_first}
-use Rattle.io_ports.specs.Source.{Told, Came, CameNext}
-use Rattle.io_ports.specs.Input.{ReadsAll, ReadsLine, IsLine, StandsFirst, first_line, content_of, line_before, content_before}
+use Rattle.gopass_base.specs.Lines.{Lacks, cut_at, front_or, with_first}
+use Rattle.io_ports.specs.Told.{Told}
+use Rattle.io_ports.specs.Source.{Came, CameNext}
+use Rattle.io_ports.specs.Input.{ReadsAll, ReadsLine, IsLine, StandsFirst, first_line, content_of}
 use Rattle.io_ports.specs.declared.input.InputFault.TheVariants.{Failed, Long, NoMemory}
-
-pub told_two : (P Q R : Text → Text → Type 0) → ((a b c : Text) → P a b → Q b c → R a c) → (x y z : Option Text) → Told P x y → Told Q y z → Told R x z
-told_two P Q R join None None None p q = tt
-told_two P Q R join None None (Some c) p q = q
-told_two P Q R join None (Some b) z p q = absurd p
-told_two P Q R join (Some a) None None p q = tt
-told_two P Q R join (Some a) None (Some c) p q = absurd q
-told_two P Q R join (Some a) (Some b) None p q = tt
-told_two P Q R join (Some a) (Some b) (Some c) p q = join a b c p q
-
-pub told_as : (P Q : Text → Text → Type 0) → ((a b : Text) → P a b → Q a b) → (x y : Option Text) → Told P x y → Told Q x y
-told_as P Q turn None None p = tt
-told_as P Q turn None (Some b) p = p
-told_as P Q turn (Some a) None p = tt
-told_as P Q turn (Some a) (Some b) p = turn a b p
+use Rattle.io_ports.proofs.ToldLemmas.{told_two, told_as}
 
 pub came_two : (xs ys a b c : Text) → Came xs a b → Came ys b c → Came (xs ++ ys) a c
 came_two xs ys a b c first then = first ∙ ap (λ l. xs ++ l) then ∙ sym (append_assoc xs ys c)
 
--- a buffer beyond the limit
-pub all_long : (max n : ℕ) (xs into : Text) (x y z : Option Text) → length xs ≤ max → max - length xs < n → n ≤ 4096 → n ≤ length into
+-- these came first, and this is left
+pub behind_these : (xs a c : Text) (n : ℕ) → Came xs a c → length xs ≡ n → c ≡ drop n a
+behind_these xs a c n came is = sym (ap (λ t. drop n t) came ∙ ap (λ k. drop k (xs ++ c)) (sym is) ∙ drop-append_seam xs c)
+
+-- one byte beyond the limit
+pub all_long : (max n : ℕ) (xs into : Text) (x y z : Option Text) → length xs + n ≡ max + 1 → n ≤ length into
     → Told (Came xs) x y → Told (CameNext (take n into)) y z → Told (ReadsAll {Z = Global} max (Err Long)) x z
-all_long max n xs into x y z short more few fits first then = told_two _ _ _ step x y z first then
+all_long max n xs into x y z over fits first then = told_two _ _ _ step x y z first then
   where
-    here : length (xs ++ take n into) ≡ length xs + n
-    here = length-append xs (take n into) ∙ ap (λ k. length xs + k) (length-take-le n into fits)
+    here : length (xs ++ take n into) ≡ max + 1
+    here = length-append xs (take n into) ∙ ap (λ k. length xs + k) (length-take-le n into fits) ∙ over
 
     step : (a b c : Text) → Came xs a b → CameNext (take n into) b c → ReadsAll {Z = Global} max (Err Long) a c
     step a b c p q = (let whole : a ≡ (xs ++ take n into) ++ c = came_two xs (take n into) a b c p q.came in
-        (omega (arith, ap length whole, length-append (xs ++ take n into) c, here, more, short), (xs ++ take n into, omega (arith, here, more, short, few), whole)))
+        (omega (arith, ap length whole, length-append (xs ++ take n into) c, here), behind_these (xs ++ take n into) a c (max + 1) whole here))
 
 -- the cut of a byte and those behind it, by whether the byte is an LF
 abbrev cut_from : ℕ → Text → Bool → Option (Text × Text)
 cut_from b bs is_lf = cond is_lf (Some ([], bs)) (with_first b (cut_at 10 bs))
 
--- the first cut behind bytes without an LF
-cut_behind : (xs ys : Text) → cut_at 10 xs ≡ None → (first_line (xs ++ ys) ≡ (xs ++ (first_line ys).0, (first_line ys).1)) × (content_of (xs ++ ys) ≡ xs ++ content_of ys)
-cut_behind [] ys none = (refl, refl)
-cut_behind (b ∷ xs) ys none = elim (eqb_tells b 10) [
+-- a byte that is no LF, and what stands behind it
+content_more : (b : ℕ) (bs : Text) → eqb b 10 ≡ false → content_of (b ∷ bs) ≡ b ∷ content_of bs
+content_more b bs off = ap (λ r. front_or r (b ∷ bs)) (ap (cut_from b bs) off) ∙ by_cut (cut_at 10 bs)
+  where
+    by_cut : (r : Option (Text × Text)) → front_or (with_first b r) (b ∷ bs) ≡ b ∷ front_or r bs
+    by_cut None = refl
+    by_cut (Some cut) = refl
+
+-- what the first line says behind bytes without an LF
+content_behind : (xs ys : Text) → cut_at 10 xs ≡ None → content_of (xs ++ ys) ≡ xs ++ content_of ys
+content_behind [] ys none = refl
+content_behind (b ∷ xs) ys none = elim (eqb_tells b 10) [
   | inl (t, same) ↦ (let bad : ◌≡◌ {A = Option (Text × Text)} (Some ([], xs)) None = sym (ap (cut_from b xs) t) ∙ none in absurd (cc))
-  | inr (t, other) ↦ (let rest : with_first b (cut_at 10 xs) ≡ None = sym (ap (cut_from b xs) t) ∙ none in
-      let ih = cut_behind xs ys (not_behind (cut_at 10 xs) rest) in
-      let cut : cut_at 10 ((b ∷ xs) ++ ys) ≡ with_first b (cut_at 10 (xs ++ ys)) = ap (cut_from b (xs ++ ys)) t in (
-        ap (line_before (b ∷ (xs ++ ys))) cut ∙ one_more (xs ++ ys) (cut_at 10 (xs ++ ys)) ∙ ap (λ (l : Text × Text). (b ∷ l.0, l.1)) ih.0,
-        ap (content_before (b ∷ (xs ++ ys))) cut ∙ one_byte (xs ++ ys) (cut_at 10 (xs ++ ys)) ∙ ap (λ l. b ∷ l) ih.1,
-      ))
+  | inr (t, other) ↦ content_more b (xs ++ ys) t ∙ ap (λ l. b ∷ l) (content_behind xs ys (not_behind (cut_at 10 xs) (sym (ap (cut_from b xs) t) ∙ none)))
 ]
   where
     not_behind : (r : Option (Text × Text)) → with_first b r ≡ None → r ≡ None
     not_behind None e = refl
     not_behind (Some cut) e = absurd (cc)
 
-    one_more : (t : Text) (r : Option (Text × Text)) → line_before (b ∷ t) (with_first b r) ≡ (b ∷ (line_before t r).0, (line_before t r).1)
-    one_more t None = refl
-    one_more t (Some cut) = refl
+-- a text cut at a place
+abbrev parted : ℕ → Text → Text × Text
+parted n text = (take n text, drop n text)
 
-    one_byte : (t : Text) (r : Option (Text × Text)) → content_before (b ∷ t) (with_first b r) ≡ b ∷ content_before t r
-    one_byte t None = refl
-    one_byte t (Some cut) = refl
-
--- a byte that is no LF, and what stands behind it
-other_first : (byte : ℕ) (ys : Text) → eqb byte 10 ≡ false → (1 ≤ length (first_line (byte ∷ ys)).0) × (1 ≤ length (content_of (byte ∷ ys))) × (cut_at 10 (byte ∷ []) ≡ None)
-other_first byte ys off =
-    let t : cut_at 10 (byte ∷ ys) ≡ with_first byte (cut_at 10 ys) = ap (cut_from byte ys) off in
-    let lone : cut_at 10 (byte ∷ []) ≡ None = ap (cut_from byte []) off in (
-      subst (λ (r : Option (Text × Text)). 1 ≤ length (line_before (byte ∷ ys) r).0) (sym t) (long_line (cut_at 10 ys)),
-      subst (λ (r : Option (Text × Text)). 1 ≤ length (content_before (byte ∷ ys) r)) (sym t) (long_content (cut_at 10 ys)),
-      lone,
-    )
+line_behind : (xs ys : Text) → cut_at 10 xs ≡ None → first_line (xs ++ ys) ≡ (xs ++ (first_line ys).0, (first_line ys).1)
+line_behind xs ys none = ap (λ n. parted n (xs ++ ys)) place ∙ (λ i. (take-append-add xs ys (length (content_of ys) + 1) i, drop-append-add xs ys (length (content_of ys) + 1) i))
   where
-    long_line : (r : Option (Text × Text)) → 1 ≤ length (line_before (byte ∷ ys) (with_first byte r)).0
-    long_line None = omega arith
-    long_line (Some cut) = omega arith
-
-    long_content : (r : Option (Text × Text)) → 1 ≤ length (content_before (byte ∷ ys) (with_first byte r))
-    long_content None = omega arith
-    long_content (Some cut) = omega arith
+    place : length (content_of (xs ++ ys)) + 1 ≡ length xs + (length (content_of ys) + 1)
+    place = omega (arith, ap length (content_behind xs ys none), length-append xs (content_of ys))
 
 -- the first line of what begins with any byte
 some_line : (byte : ℕ) (ys : Text) → 1 ≤ length (first_line (byte ∷ ys)).0
-some_line byte ys = elim (eqb_tells byte 10) [
-  | inl (t, same) ↦ subst (λ (r : Option (Text × Text)). 1 ≤ length (line_before (byte ∷ ys) r).0) (sym (ap (cut_from byte ys) t)) (omega arith)
-  | inr (t, other) ↦ (other_first byte ys t).0
-]
+some_line byte ys = omega (arith, length-take (length (content_of (byte ∷ ys)) + 1) (byte ∷ ys))
 
 pub none_behind : (xs : Text) (byte : ℕ) → cut_at 10 xs ≡ None → byte ≢ 10 → cut_at 10 (xs ++ byte ∷ []) ≡ None
-none_behind [] byte none off = (other_first byte [] (ne_eqb byte 10 off)).2
+none_behind [] byte none off = ap (cut_from byte []) (ne_eqb byte 10 off)
 none_behind (b ∷ xs) byte none off = elim (eqb_tells b 10) [
   | inl (t, same) ↦ (let bad : ◌≡◌ {A = Option (Text × Text)} (Some ([], xs)) None = sym (ap (cut_from b xs) t) ∙ none in absurd (cc))
   | inr (t, other) ↦ (let rest : with_first b (cut_at 10 xs) ≡ None = sym (ap (cut_from b xs) t) ∙ none in
@@ -108,20 +84,20 @@ none_behind (b ∷ xs) byte none off = elim (eqb_tells b 10) [
     not_behind (Some cut) e = absurd (cc)
 
 -- the source failed within the line
-pub line_stopped : (max : ℕ) (xs : Text) (x y z : Option Text) → cut_at 10 xs ≡ None → Told (Came xs) x y → z ≡ y → Told (ReadsLine {Z = Global} max (Err Failed)) x z
-line_stopped max xs x y z none came same = subst (λ (o : Option Text). Told (ReadsLine {Z = Global} max (Err Failed)) x o) (sym same) (told_as _ _ step x y came)
+pub line_stopped : (max : ℕ) (xs : Text) (x y z : Option Text) → cut_at 10 xs ≡ None → length xs ≤ max → Told (Came xs) x y → z ≡ y → Told (ReadsLine {Z = Global} max (Err Failed)) x z
+line_stopped max xs x y z none inside came same = subst (λ (o : Option Text). Told (ReadsLine {Z = Global} max (Err Failed)) x o) (sym same) (told_as _ _ step x y came)
   where
     step : (a b : Text) → Came xs a b → ReadsLine {Z = Global} max (Err Failed) a b
-    step a b p = (let whole : content_of a ≡ xs ++ content_of b = ap content_of p ∙ (cut_behind xs b none).1 in
-        (xs, omega (arith, ap length whole, length-append xs (content_of b)), p))
+    step a b p = (let whole : content_of a ≡ xs ++ content_of b = ap content_of p ∙ content_behind xs b none in
+        (xs, omega (arith, inside, ap length whole, length-append xs (content_of b)), p))
 
 -- there was no room for a byte of the line
-pub line_unkept : (max byte : ℕ) (xs : Text) (x y z : Option Text) → cut_at 10 xs ≡ None → Told (Came xs) x y → Told (Came (byte ∷ [])) y z → Told (ReadsLine {Z = Global} max (Err NoMemory)) x z
-line_unkept max byte xs x y z none first then = told_two _ _ _ step x y z first then
+pub line_unkept : (max byte : ℕ) (xs : Text) (x y z : Option Text) → cut_at 10 xs ≡ None → length xs ≤ max → Told (Came xs) x y → Told (Came (byte ∷ [])) y z → Told (ReadsLine {Z = Global} max (Err NoMemory)) x z
+line_unkept max byte xs x y z none inside first then = told_two _ _ _ step x y z first then
   where
     step : (a b c : Text) → Came xs a b → Came (byte ∷ []) b c → ReadsLine {Z = Global} max (Err NoMemory) a c
-    step a b c p q = (let whole : (first_line a).0 ≡ xs ++ (first_line (byte ∷ c)).0 = ap (λ t. (first_line t).0) (p ∙ ap (λ l. xs ++ l) q) ∙ ap (λ (l : Text × Text). l.0) (cut_behind xs (byte ∷ c) none).0 in
-        (xs ++ byte ∷ [], omega (arith, ap length whole, length-append xs (first_line (byte ∷ c)).0, length-append xs (byte ∷ []), some_line byte c), came_two xs (byte ∷ []) a b c p q))
+    step a b c p q = (let whole : (first_line a).0 ≡ xs ++ (first_line (byte ∷ c)).0 = ap (λ t. (first_line t).0) (p ∙ ap (λ l. xs ++ l) q) ∙ ap (λ (l : Text × Text). l.0) (line_behind xs (byte ∷ c) none) in
+        (xs ++ byte ∷ [], omega (arith, inside, ap length whole, length-append xs (first_line (byte ∷ c)).0, length-append xs (byte ∷ []), some_line byte c), came_two xs (byte ∷ []) a b c p q))
 
 -- the line has ended
 pub line_ended : (max byte : ℕ) (xs : Text) (line : Vec ℕ Global) (x y z : Option Text) → cut_at 10 xs ≡ None → length xs ≤ max → byte ≡ 10 → line.items ≡ xs ++ byte ∷ []
@@ -130,38 +106,32 @@ line_ended max byte xs line x y z none short is grown first then = told_two _ _ 
   where
     step : (a b c : Text) → Came xs a b → Came (byte ∷ []) b c → ReadsLine max (Ok line) a c
     step a b c p q = (let whole : a ≡ xs ++ 10 ∷ c = p ∙ ap (λ l. xs ++ l) q ∙ ap (λ n. xs ++ n ∷ c) is in
-        let two = cut_behind xs (10 ∷ c) none in
-        let says : content_of a ≡ xs = ap content_of whole ∙ two.1 ∙ append-nil xs in
-        (ap first_line whole ∙ two.0 ∙ ap (λ l. (l, c)) (ap (λ n. xs ++ n ∷ []) (sym is) ∙ sym grown), omega (arith, ap length says, short)))
+        let says : content_of a ≡ xs = ap content_of whole ∙ content_behind xs (10 ∷ c) none ∙ append-nil xs in
+        (ap first_line whole ∙ line_behind xs (10 ∷ c) none ∙ ap (λ l. (l, c)) (ap (λ n. xs ++ n ∷ []) (sym is) ∙ sym grown), omega (arith, ap length says, short)))
 
 pub one_line : (max byte : ℕ) (xs grown : Text) → cut_at 10 xs ≡ None → length xs ≤ max → byte ≡ 10 → grown ≡ xs ++ byte ∷ [] → IsLine max grown
 one_line max byte xs grown none short is grew =
     let whole : grown ≡ xs ++ 10 ∷ [] = grew ∙ ap (λ n. xs ++ n ∷ []) is in
-    let two = cut_behind xs (10 ∷ []) none in
-    let says : content_of grown ≡ xs = ap content_of whole ∙ two.1 ∙ append-nil xs in
-    record { one = ap first_line whole ∙ two.0 ∙ ap (λ l. (l, [])) (sym whole); short = omega (arith, ap length says, short) }
+    let says : content_of grown ≡ xs = ap content_of whole ∙ content_behind xs (10 ∷ []) none ∙ append-nil xs in
+    record { one = ap first_line whole ∙ line_behind xs (10 ∷ []) none ∙ ap (λ l. (l, [])) (sym whole); short = omega (arith, ap length says, short) }
 
-drop_front : (l m : Text) → drop (length l) (l ++ m) ≡ m
-drop_front [] m = refl
-drop_front (t ∷ l) m = drop_front l m
+-- bytes with no cut are one line, and what it says
+pub none_says : (xs : Text) → cut_at 10 xs ≡ None → content_of xs ≡ xs
+none_says xs none = ap (λ r. front_or r xs) none
 
--- one byte beyond the limit
+pub none_line : (xs : Text) → cut_at 10 xs ≡ None → first_line xs ≡ (xs, [])
+none_line xs none = ap (λ t. parted (length t + 1) xs) (none_says xs none) ∙ (λ i. (take_all (length xs + 1) xs (omega arith) i, drop_all (length xs + 1) xs (omega arith) i))
+
+-- one byte beyond the limit of a line
 pub line_long : (max byte : ℕ) (xs : Text) (x y z : Option Text) → cut_at 10 xs ≡ None → length xs ≡ max → byte ≢ 10
     → Told (Came xs) x y → Told (Came (byte ∷ [])) y z → Told (ReadsLine {Z = Global} max (Err Long)) x z
 line_long max byte xs x y z none full off first then = told_two _ _ _ step x y z first then
   where
     step : (a b c : Text) → Came xs a b → Came (byte ∷ []) b c → ReadsLine {Z = Global} max (Err Long) a c
-    step a b c p q = (let whole : content_of a ≡ xs ++ content_of (byte ∷ c) = ap content_of (p ∙ ap (λ l. xs ++ l) q) ∙ (cut_behind xs (byte ∷ c) none).1 in
-        (omega (arith, ap length whole, length-append xs (content_of (byte ∷ c)), (other_first byte c (ne_eqb byte 10 off)).1, full), behind_these))
-      where
-        split : a ≡ (xs ++ byte ∷ []) ++ c
-        split = came_two xs (byte ∷ []) a b c p q
-
-        here : length (xs ++ byte ∷ []) ≡ max + 1
-        here = omega (arith, length-append xs (byte ∷ []), full)
-
-        behind_these : c ≡ drop (max + 1) a
-        behind_these = sym (ap (λ t. drop (max + 1) t) split ∙ ap (λ n. drop n ((xs ++ byte ∷ []) ++ c)) (sym here) ∙ drop_front (xs ++ byte ∷ []) c)
+    step a b c p q = (let whole : content_of a ≡ xs ++ byte ∷ content_of c = ap content_of (p ∙ ap (λ l. xs ++ l) q) ∙ content_behind xs (byte ∷ c) none ∙ ap (λ l. xs ++ l) (content_more byte c (ne_eqb byte 10 off)) in (
+      omega (arith, ap length whole, length-append xs (byte ∷ content_of c), full),
+      behind_these (xs ++ byte ∷ []) a c (max + 1) (came_two xs (byte ∷ []) a b c p q) (omega (arith, length-append xs (byte ∷ []), full)),
+    ))
 
 -- bytes without an LF have no cut
 never_cut : (xs : Text) → Lacks 10 xs → cut_at 10 xs ≡ None
@@ -193,28 +163,42 @@ clean (b ∷ xs) = elim (eqb_tells b 10) [
         some_got : ◌≡◌ {A = Option (Text × Text)} (Some (b ∷ cut.0, cut.1)) None → ⊥
         some_got e = cc
 
+pub none_lacks : (xs : Text) → cut_at 10 xs ≡ None → Lacks 10 xs
+none_lacks xs none = (clean xs).0 none
+
+-- bytes with an LF behind them do not lack it
+pub lf_within : (says : Text) → Lacks 10 (says ++ 10 ∷ []) → ⊥
+lf_within [] none = All-head (λ n. n ≢ 10) 10 [] none refl
+lf_within (b ∷ says) none = lf_within says (All-tail (λ n. n ≢ 10) b (says ++ 10 ∷ []) none)
+
 -- the first line of a text stands first
 line_stands : (text : Text) → StandsFirst (first_line text).0 (first_line text).1 text
-line_stands text = by_cut (cut_at 10 text) refl
+line_stands text = record { whole = sym (take-append-drop (length (content_of text) + 1) text); ends = by_cut (cut_at 10 text) refl }
   where
-    by_cut : (r : Option (Text × Text)) → cut_at 10 text ≡ r → StandsFirst (line_before text r).0 (line_before text r).1 text
-    by_cut None was = record { whole = sym (append-nil text); ends = inr ((clean text).0 was, refl) }
-    by_cut (Some cut) was = record {
-      whole = cut_is 10 text cut.0 cut.1 was ∙ sym (append_assoc cut.0 (10 ∷ []) cut.1);
-      ends = inl (cut.0, (clean text).1 cut.0 cut.1 was, refl);
-    }
+    by_cut : (r : Option (Text × Text)) → cut_at 10 text ≡ r → ((says : Text) × Lacks 10 says × ((first_line text).0 ≡ says ++ 10 ∷ [])) ⊎ (Lacks 10 (first_line text).0 × ((first_line text).1 ≡ []))
+    by_cut None was = (let is = none_line text was in inr (subst (Lacks 10) (sym (ap (λ (l : Text × Text). l.0) is)) ((clean text).0 was), ap (λ (l : Text × Text). l.1) is))
+    by_cut (Some cut) was = (let clear = (clean text).1 cut.0 cut.1 was in
+        inl (cut.0, clear, ap (λ t. (first_line t).0) (cut_is 10 text cut.0 cut.1 was) ∙ ap (λ (l : Text × Text). l.0) (line_behind cut.0 (10 ∷ cut.1) (never_cut cut.0 clear))))
 
 pub says_only : (says rest : Text) → Lacks 10 says → (content_of says ≡ says) × (content_of (says ++ 10 ∷ rest) ≡ says)
-says_only says rest none = (ap (content_before says) (never_cut says none), (cut_behind says (10 ∷ rest) (never_cut says none)).1 ∙ append-nil says)
+says_only says rest none = (none_says says (never_cut says none), content_behind says (10 ∷ rest) (never_cut says none) ∙ append-nil says)
 
 -- what stands first is the first line
 stands_line : (text line rest : Text) → StandsFirst line rest text → first_line text ≡ (line, rest)
 stands_line text line rest s = elim s.ends [
   | inl (says, none, ended) ↦ ap first_line (s.whole ∙ ap (λ l. l ++ rest) ended ∙ append_assoc says (10 ∷ []) rest)
-      ∙ (cut_behind says (10 ∷ rest) (never_cut says none)).0 ∙ ap (λ l. (l, rest)) (sym ended)
+      ∙ line_behind says (10 ∷ rest) (never_cut says none) ∙ ap (λ l. (l, rest)) (sym ended)
   | inr (none, nothing) ↦ ap first_line (s.whole ∙ ap (λ l. line ++ l) nothing ∙ append-nil line)
-      ∙ ap (line_before line) (never_cut line none) ∙ ap (λ l. (line, l)) (sym nothing)
+      ∙ none_line line (never_cut line none) ∙ ap (λ l. (line, l)) (sym nothing)
 ]
 
 pub one_first : (text line rest : Text) → first_line text ≡ (line, rest) ↔ StandsFirst line rest text
 one_first text line rest = (λ e. subst (λ (p : Text × Text). StandsFirst p.0 p.1 text) e (line_stands text), stands_line text line rest)
+
+-- what a line says has no LF
+pub content_lacks : (text : Text) → Lacks 10 (content_of text)
+content_lacks text = by_cut (cut_at 10 text) refl
+  where
+    by_cut : (r : Option (Text × Text)) → cut_at 10 text ≡ r → Lacks 10 (front_or r text)
+    by_cut None was = (clean text).0 was
+    by_cut (Some cut) was = (clean text).1 cut.0 cut.1 was

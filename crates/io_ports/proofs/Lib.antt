@@ -1,3 +1,4 @@
+pub mod ToldLemmas
 pub mod SinkLemmas
 pub mod KeptLemmas
 pub mod InputLemmas

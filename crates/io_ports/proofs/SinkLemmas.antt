@@ -1,18 +1,16 @@
 -- What a sink takes, put after put.
-use Rattle.std.proofs.Common.{ℕ, ◌+◌, ◌-◌, ◌++◌, length, take, drop, Option, Some, None, sym, ◌∙◌, ap, subst}
+use Rattle.std.proofs.Common.{ℕ, ◌+◌, ◌-◌, ◌≡◌, ◌++◌, length, take, drop, Option, sym, ◌∙◌, ap, subst}
 use Rattle.std.proofs.Math.Seq.{take-add}
 use Rattle.std.proofs.lemmas.List.{append_assoc, take_rest}
 use Rattle.gopass_base.specs.Text.{Text}
 use Rattle.io_ports.specs.Sink.{Took}
+use Rattle.io_ports.proofs.ToldLemmas.{told_two}
 
-pub took_two : (a b c : Option Text) (xs ys : Text) → Took a b xs → Took b c ys → Took a c (xs ++ ys)
-took_two None None None xs ys f g = tt
-took_two None None (Some z) xs ys f g = g
-took_two None (Some y) c xs ys f g = absurd f
-took_two (Some x) None None xs ys f g = tt
-took_two (Some x) None (Some z) xs ys f g = absurd g
-took_two (Some x) (Some y) None xs ys f g = tt
-took_two (Some x) (Some y) (Some z) xs ys f g = g ∙ ap (λ l. l ++ ys) f ∙ append_assoc x xs ys
+abbrev grown_by : Text → Text → Text → Type 0
+grown_by bytes was is = is ≡ was ++ bytes
+
+took_two : (a b c : Option Text) (xs ys : Text) → Took a b xs → Took b c ys → Took a c (xs ++ ys)
+took_two a b c xs ys f g = told_two (grown_by xs) (grown_by ys) (grown_by (xs ++ ys)) (λ x y z p q. q ∙ ap (λ l. l ++ ys) p ∙ append_assoc x xs ys) a b c f g
 
 -- the first `done` bytes, and then n of the rest
 pub took_more : (a b c : Option Text) (done n : ℕ) (bytes : Text)

@@ -1,3 +1,4 @@
+pub mod Told
 pub mod Sink
 pub mod Kept
 pub mod Source

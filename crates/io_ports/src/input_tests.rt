@@ -59,7 +59,8 @@ fn all_is_read_up_to_a_limit(rt: HostRuntime) -> Result<(), Fail> {
         let got = read_all(rt.alloc(), &mut source, max);
         let want = if is_long { LONG } else { Ok(bytes.as_slice()) };
         assert!(rt; gives(&got, want));
-        assert!(rt; is_long || source.left().is_empty());
+        let left = length.saturating_sub(max).saturating_sub(1);
+        assert_eq!(rt; source.left().len(), left);
     }
     Ok(())
 }
@@ -75,6 +76,24 @@ fn a_fault_is_told_and_takes_nothing(rt: HostRuntime) -> Result<(), Fail> {
     let mut source = failing_first(rt.alloc(), b"ab")?;
     assert!(rt; gives(&read_all(rt.alloc(), &mut source, 9), failed));
     assert!(rt; gives(&read_all(rt.alloc(), &mut source, 9), Ok(b"ab")));
+    Ok(())
+}
+
+#[test]
+fn nothing_is_asked_after_the_end(rt: HostRuntime) -> Result<(), Fail> {
+    let failed = Err(InputFault::Failed);
+    let bytes = b"ab".to_vec(rt.alloc())?;
+    let mut source = MemSource::new(bytes, vec![in rt.alloc(); 2u64]?);
+    assert!(rt; gives(&read_all(rt.alloc(), &mut source, 9), Ok(b"ab")));
+    assert!(rt; gives(&read_all(rt.alloc(), &mut source, 9), failed));
+    let bytes = b"ab".to_vec(rt.alloc())?;
+    let mut source = MemSource::new(bytes, vec![in rt.alloc(); 3u64]?);
+    assert!(rt; gives(&read_line(rt.alloc(), &mut source, 9), Ok(b"ab")));
+    assert!(rt; gives(&read_line(rt.alloc(), &mut source, 9), failed));
+    let bytes = b"a\nb".to_vec(rt.alloc())?;
+    let mut source = MemSource::new(bytes, vec![in rt.alloc(); 2u64]?);
+    assert!(rt; gives(&read_line(rt.alloc(), &mut source, 9), Ok(b"a\n")));
+    assert!(rt; gives(&read_line(rt.alloc(), &mut source, 9), failed));
     Ok(())
 }
 
@@ -106,7 +125,7 @@ struct Drops {
 impl Source for Drops {
     ghost use Rattle.std.specs.Prelude.{None};
 
-    ghost meaning = { record { left = λ _. None; faults = λ drops. drops.source.calls.faults } };
+    ghost meaning = { record { left = λ _. None; taken = λ d. d.source.source.taken; ends = λ d. d.source.source.ends; faults = λ d. d.source.calls.faults } };
 
     fn take(&mut self, into: &mut [u8]) -> Result<usize, Failed> {
         self.source.take(&mut into[..1])

@@ -18,3 +18,5 @@ pub use sources::{MemSource, SureSource};
 
 #[cfg(test)]
 mod input_tests;
+#[cfg(test)]
+mod sink_tests;

@@ -1,6 +1,6 @@
 //! Sinks in memory.
 
-ghost use Rattle.std.specs.Prelude.{◌≡◌, ◌↔◌, ◌≤◌, ◌<◌, length, is_ok, IsOk, IsErr, IfOk, Contains, if◌then◌else◌};
+ghost use Rattle.std.specs.Prelude.{◌≡◌, ◌↔◌, ◌≤◌, ◌<◌, ◌+◌, length, is_ok, IsOk, IsErr, IfOk, Contains, if◌then◌else◌};
 ghost use Rattle.gopass_base.specs.Faults.{HasCause};
 ghost use Rattle.gopass_base.specs.Calls.{no_calls, next_calls};
 ghost use Rattle.io_ports.specs.Sink.{Puts};
@@ -113,34 +113,5 @@ impl Sink for MemSink {
         self.calls.call()?;
         self.room.keep(bytes);
         Ok(bytes.len())
-    }
-}
-
-#[cfg(test)]
-mod tests {
-    use super::*;
-    use crate::put_all;
-    use std::test::Fail;
-
-    #[test]
-    fn a_failing_call_stops_put_all_and_takes_nothing(rt: HostRuntime) -> Result<(), Fail> {
-        let failing = vec![in rt.alloc(); 1u64]?;
-        let mut sink = MemSink::new(rt.alloc(), 8, failing)?;
-        assert_eq!(rt; put_all(&mut sink, b"ab"), Ok(()));
-        assert_eq!(rt; put_all(&mut sink, b"cd"), Err(Failed));
-        assert_eq!(rt; put_all(&mut sink, b""), Ok(()));
-        assert_eq!(rt; put_all(&mut sink, b"ef"), Ok(()));
-        assert_eq!(rt; sink.taken(), b"abef".as_slice());
-        Ok(())
-    }
-
-    #[test]
-    fn a_full_sink_keeps_the_first_bytes(rt: HostRuntime) -> Result<(), Fail> {
-        let mut sink = SureSink::new(rt.alloc(), 3)?;
-        assert_eq!(rt; put_all(&mut sink, b"ab"), Ok(()));
-        assert_eq!(rt; put_all(&mut sink, b"cd"), Ok(()));
-        assert_eq!(rt; put_all(&mut sink, b"e"), Ok(()));
-        assert_eq!(rt; sink.taken(), b"abc".as_slice());
-        Ok(())
     }
 }

@@ -1,6 +1,6 @@
 //! Where bytes go.
 
-ghost use Rattle.std.specs.Prelude.{◌≤◌, ◌<◌, length, IsErr, IfOk, OnOk, OnErr};
+ghost use Rattle.std.specs.Prelude.{◌≤◌, ◌<◌, ◌+◌, length, IsErr, IfOk, OnOk, OnErr};
 ghost use Rattle.gopass_base.specs.Faults.{HasCause};
 ghost use Rattle.io_ports.specs.Sink.{SinkMeaning, Took, TookPart, Puts};
 
@@ -21,7 +21,8 @@ pub trait Sink {
         ensures cause { HasCause (meaning.faults self.old) (meaning.faults self.new) (IsErr result) };
 }
 
-/// Puts all the bytes. Where a call of the sink fails it stops, and the sink has taken a prefix.
+/// Puts all the bytes, at each call all that are left. Where a call of the sink fails it stops, and
+/// the sink has taken a prefix, and not all.
 #[tactic(auto, using(crate::proofs::SinkLemmas::took_more))]
 pub fn put_all<O: Sink>(sink: &mut O, bytes: &[u8]) -> Result<(), Failed>
     ensures all { OnOk result (Took (O.meaning.held sink.old) (O.meaning.held sink.new) bytes.now) }

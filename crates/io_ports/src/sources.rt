@@ -1,9 +1,9 @@
 //! Sources in memory.
 
-ghost use Rattle.std.specs.Prelude.{◌≡◌, ◌↔◌, ◌++◌, ◌≤◌, ◌<◌, min, length, take, drop, is_ok, IsOk, IsErr, IfOk, Contains, Some, if◌then◌else◌};
+ghost use Rattle.std.specs.Prelude.{◌≡◌, ◌↔◌, ◌++◌, ◌+◌, ◌≤◌, ◌<◌, min, length, take, drop, is_ok, Ok, IsOk, IsErr, IfOk, Contains, Some, if◌then◌else◌};
 ghost use Rattle.gopass_base.specs.Faults.{HasCause};
 ghost use Rattle.gopass_base.specs.Calls.{no_calls, next_calls};
-ghost use Rattle.io_ports.specs.Source.{Takes};
+ghost use Rattle.io_ports.specs.Source.{Takes, TakesCount, GrewOnce, untaken, after_take};
 
 use crate::Source;
 use crate::rest::Rest;
@@ -17,9 +17,9 @@ pub struct SureSource {
 }
 
 impl Model for SureSource {
-    ghost use Rattle.gopass_base.specs.Text.{Text};
+    ghost use Rattle.io_ports.specs.Source.{InMemory};
 
-    ghost Value = { Text };
+    ghost Value = { InMemory };
 
     ghost view = { λ source. source.rest };
 }
@@ -27,7 +27,7 @@ impl Model for SureSource {
 impl SureSource {
     /// A source of these bytes.
     pub fn new(bytes: Vec<u8>) -> SureSource
-        ensures { result ≡ bytes.items }
+        ensures { result ≡ untaken bytes.items }
     {
         SureSource {
             rest: Rest::new(bytes),
@@ -36,23 +36,25 @@ impl SureSource {
 
     /// The bytes that are still to come.
     pub fn left(&self) -> &[u8]
-        ensures { result.now ≡ self.now }
+        ensures { result.now ≡ self.now.left }
     {
         self.rest.left()
     }
 }
 
 impl Source for SureSource {
-    ghost meaning = { record { left = λ source. Some source; faults = λ _. 0 } };
+    ghost meaning = { record { left = λ source. Some source.left; taken = λ source. source.taken; ends = λ source. source.ends; faults = λ _. 0 } };
 
     fn take(&mut self, into: &mut [u8]) -> Result<usize, Failed>
         requires { 0 < length into.old }
         ensures sure { IsOk result }
-        ensures count { IfOk result (λ n. n ≡ min (length self.old) (length into.old)) }
-        ensures left { self.new ≡ drop (length into.old) self.old }
-        ensures filled { into.new ≡ take (length into.old) self.old ++ drop (length self.old) into.old }
+        ensures count { IfOk result (λ n. n ≡ min (length self.old.left) (length into.old)) }
+        ensures next { self.new ≡ after_take (length into.old) self.old }
+        ensures filled { into.new ≡ take (length into.old) self.old.left ++ drop (length self.old.left) into.old }
         ensures bound { IfOk result (λ n. n ≤ length into.old) }
-        ensures taken { Takes (Some self.old) (Some self.new) result into.new }
+        ensures taken { Takes (Some self.old.left) (Some self.new.left) result into.new }
+        ensures counts { TakesCount self.old.taken self.new.taken result }
+        ensures ends { GrewOnce self.old.ends self.new.ends (result ≡ Ok 0) }
         ensures cause { HasCause 0 0 (IsErr result) }
     {
         Ok(self.rest.take(into))
@@ -71,13 +73,13 @@ impl Model for MemSource {
 
     ghost Value = { FailingSource };
 
-    ghost view = { λ source. record { left = source.rest; calls = source.calls } };
+    ghost view = { λ source. record { source = source.rest; calls = source.calls } };
 }
 
 impl MemSource {
     /// A source of these bytes.
     pub fn new(bytes: Vec<u8>, failing: Vec<u64>) -> MemSource
-        ensures { result ≡ record { left = bytes.items; calls = no_calls failing.items } }
+        ensures { result ≡ record { source = untaken bytes.items; calls = no_calls failing.items } }
     {
         MemSource {
             rest: Rest::new(bytes),
@@ -87,24 +89,26 @@ impl MemSource {
 
     /// The bytes that are still to come.
     pub fn left(&self) -> &[u8]
-        ensures { result.now ≡ self.now.left }
+        ensures { result.now ≡ self.now.source.left }
     {
         self.rest.left()
     }
 }
 
 impl Source for MemSource {
-    ghost meaning = { record { left = λ source. Some source.left; faults = λ source. source.calls.faults } };
+    ghost meaning = { record { left = λ s. Some s.source.left; taken = λ s. s.source.taken; ends = λ s. s.source.ends; faults = λ s. s.calls.faults } };
 
     fn take(&mut self, into: &mut [u8]) -> Result<usize, Failed>
         requires { 0 < length into.old }
         ensures fails { IsErr result ↔ Contains self.old.calls.failing self.old.calls.made }
         ensures calls { self.new.calls ≡ next_calls self.old.calls }
-        ensures count { IfOk result (λ n. n ≡ min (length self.old.left) (length into.old)) }
-        ensures left { self.new.left ≡ (if is_ok result then drop (length into.old) self.old.left else self.old.left) }
-        ensures filled { into.new ≡ (if is_ok result then take (length into.old) self.old.left ++ drop (length self.old.left) into.old else into.old) }
+        ensures count { IfOk result (λ n. n ≡ min (length self.old.source.left) (length into.old)) }
+        ensures next { self.new.source ≡ (if is_ok result then after_take (length into.old) self.old.source else self.old.source) }
+        ensures filled { into.new ≡ (if is_ok result then take (length into.old) self.old.source.left ++ drop (length self.old.source.left) into.old else into.old) }
         ensures bound { IfOk result (λ n. n ≤ length into.old) }
-        ensures taken { Takes (Some self.old.left) (Some self.new.left) result into.new }
+        ensures taken { Takes (Some self.old.source.left) (Some self.new.source.left) result into.new }
+        ensures counts { TakesCount self.old.source.taken self.new.source.taken result }
+        ensures ends { GrewOnce self.old.source.ends self.new.source.ends (result ≡ Ok 0) }
         ensures cause { HasCause self.old.calls.faults self.new.calls.faults (IsErr result) }
     {
         self.calls.call()?;

@@ -1,11 +1,12 @@
 //! The body of a request: one line of the input, or all of it.
 
-ghost use Rattle.std.specs.Prelude.{◌≡◌, ◌≢◌, ◌++◌, ◌∷◌, ◌↔◌, ◌≤◌, [], IfOk, IfErr, IsTrue, Err, is_some, true, false};
+ghost use Rattle.std.specs.Prelude.{◌≡◌, ◌++◌, ◌∷◌, ◌↔◌, ◌≤◌, ◌+◌, [], IfOk, IfErr, IsTrue, Err, is_some, vec_len, true, false};
 ghost use Rattle.gopass_base.specs.Faults.{HasCause};
-ghost use Rattle.io_ports.specs.Source.{Told};
+ghost use Rattle.io_ports.specs.Told.{Told};
+ghost use Rattle.io_ports.specs.Source.{Grew};
 ghost use Rattle.io_ports.specs.Input.{IsLine, content_of};
-ghost use Rattle.request_body.specs.Bodies.{HasLf, IsOver, TakesBody, input_of};
-ghost use Rattle.request_body.specs.Given.{IsGiven, IsNoBody, bytes_of, takes_body};
+ghost use Rattle.request_body.specs.Bodies.{HasLf, IsOver, TakesBody, input_of, most_of};
+ghost use Rattle.request_body.specs.Given.{IsGiven, IsNoBody, IsSized, bytes_of, takes_body};
 ghost use Rattle.request_body.specs.declared.body.BodyFault.TheVariants.{NoMemory as no_memory};
 
 use command_words::Command;
@@ -70,7 +71,10 @@ fn ended(line: Vec<u8>) -> Result<Vec<u8>, NoMemory>
 
 /// The body of one line.
 fn read_one<S: Source>(alloc: Global, input: &mut S) -> Result<Vec<u8>, BodyFault>
-    ensures taken { Told (TakesBody false result) (S.meaning.left input.old) (S.meaning.left input.new) }
+    ensures taken { TakesBody false (input_of S.meaning input.old input.new) result }
+    ensures size { IfOk result (λ body. vec_len body ≤ most_of false) }
+    ensures most { S.meaning.taken input.new ≤ S.meaning.taken input.old + 16777217 }
+    ensures ends { S.meaning.ends input.new ≤ S.meaning.ends input.old + 1 }
     ensures cause { HasCause (S.meaning.faults input.old) (S.meaning.faults input.new) (result ≡ Err BodyFault.Failed) }
 {
     let line = read_line(alloc, input, MAX_INPUT)?;
@@ -85,7 +89,10 @@ fn read_one<S: Source>(alloc: Global, input: &mut S) -> Result<Vec<u8>, BodyFaul
 
 /// The body of all that is left.
 fn read_rest<S: Source>(alloc: Global, input: &mut S) -> Result<Vec<u8>, BodyFault>
-    ensures taken { Told (TakesBody true result) (S.meaning.left input.old) (S.meaning.left input.new) }
+    ensures taken { TakesBody true (input_of S.meaning input.old input.new) result }
+    ensures size { IfOk result (λ body. vec_len body ≤ most_of true) }
+    ensures most { S.meaning.taken input.new ≤ S.meaning.taken input.old + 16777217 }
+    ensures ends { S.meaning.ends input.new ≤ S.meaning.ends input.old + 1 }
     ensures cause { HasCause (S.meaning.faults input.old) (S.meaning.faults input.new) (result ≡ Err BodyFault.Failed) }
 {
     Ok(read_all(alloc, input, MAX_INPUT)?)
@@ -93,8 +100,12 @@ fn read_rest<S: Source>(alloc: Global, input: &mut S) -> Result<Vec<u8>, BodyFau
 
 /// The body that is taken from the input: one line with a line feed behind it, or all that is left.
 fn read_body<S: Source>(alloc: Global, multi: bool, input: &mut S) -> Result<Vec<u8>, BodyFault>
-    ensures taken { Told (TakesBody multi result) (S.meaning.left input.old) (S.meaning.left input.new) }
+    ensures taken { TakesBody multi (input_of S.meaning input.old input.new) result }
+    ensures size { IfOk result (λ body. vec_len body ≤ most_of multi) }
     ensures over { result ≡ Err BodyFault.Long → Told IsOver (S.meaning.left input.old) (S.meaning.left input.new) }
+    ensures long { result ≡ Err BodyFault.Long → Grew 16777217 (S.meaning.taken input.old) (S.meaning.taken input.new) }
+    ensures most { S.meaning.taken input.new ≤ S.meaning.taken input.old + 16777217 }
+    ensures ends { S.meaning.ends input.new ≤ S.meaning.ends input.old + 1 }
     ensures cause { HasCause (S.meaning.faults input.old) (S.meaning.faults input.new) (result ≡ Err BodyFault.Failed) }
 {
     if multi {
@@ -112,11 +123,14 @@ pub fn take_body<S: Source>(
 ) -> Result<Option<Vec<u8>>, BodyFault>
     ensures given { IfOk result (λ body. IsGiven command.now (input_of S.meaning input.old input.new) (bytes_of body)) }
     ensures fits { IfOk result (λ body. is_some body ≡ takes_body command.now) }
+    ensures size { IfOk result (λ body. IsSized command.now (bytes_of body)) }
     ensures refused { IfErr result (IsNoBody command.now (input_of S.meaning input.old input.new)) }
     ensures over { result ≡ Err BodyFault.Long → Told IsOver (S.meaning.left input.old) (S.meaning.left input.new) }
+    ensures long { result ≡ Err BodyFault.Long → Grew 16777217 (S.meaning.taken input.old) (S.meaning.taken input.new) }
     ensures left { takes_body command.now ≡ false → input.new ≡ input.old }
-    ensures later { S.meaning.faults input.old ≤ S.meaning.faults input.new }
-    ensures stays { result ≢ Err BodyFault.Failed → S.meaning.faults input.new ≡ S.meaning.faults input.old }
+    ensures most { S.meaning.taken input.new ≤ S.meaning.taken input.old + 16777217 }
+    ensures ends { S.meaning.ends input.new ≤ S.meaning.ends input.old + 1 }
+    ensures cause { HasCause (S.meaning.faults input.old) (S.meaning.faults input.new) (result ≡ Err BodyFault.Failed) }
 {
     match command {
         Command::Insert { multi, .. } => match read_body(alloc, *multi, input) {
