@@ -11,7 +11,7 @@ use Rattle.std.proofs.lemmas.Map.Text.{is_eq-slice_cmp}
 use Rattle.std.proofs.lemmas.Slice.Eq.{bytes_eq-Decides}
 use Rattle.std.proofs.lemmas.List.Sorted.{searchable_from_sorted}
 use Rattle.audit_rules.specs.declared.word_table.WordRow.{WordRow}
-use Rattle.audit_rules.specs.Words.{code_at, rises, word_of}
+use Rattle.audit_rules.specs.Words.{meaning_at, rises, word_of}
 
 abbrev pub order : List ℕ → List ℕ → Ordering
 order = slice_cmp nat_cmp
@@ -21,21 +21,21 @@ less Less b e = (refl, e)
 less Equal b e = absurd (cc)
 less Greater b e = absurd (cc)
 
-below_later : (row : WordRow) (rows : List WordRow) → rises (row ∷ rows) ≡ true → (k : ℕ) (d : WordRow) → k < length rows → order (word_of row) (word_of (get_or rows k d)) ≡ Less
+below_later : {M : Type 0} → (row : WordRow M) (rows : List (WordRow M)) → rises (row ∷ rows) ≡ true → (k : ℕ) (d : WordRow M) → k < length rows → order (word_of row) (word_of (get_or rows k d)) ≡ Less
 below_later row [] up k d lt = absurd (omega arith)
 below_later row (next ∷ rows) up zero d lt = (less (order (word_of row) (word_of next)) (rises (next ∷ rows)) up).0
 below_later row (next ∷ rows) up (suc k) d lt = nat_list_cmp_total.trans (word_of row) (word_of next) (word_of (get_or rows k d)) (less (order (word_of row) (word_of next)) (rises (next ∷ rows)) up).0 (below_later next rows (less (order (word_of row) (word_of next)) (rises (next ∷ rows)) up).1 k d (omega arith))
 
-rest_rises : (row : WordRow) (rows : List WordRow) → rises (row ∷ rows) ≡ true → rises rows ≡ true
+rest_rises : {M : Type 0} → (row : WordRow M) (rows : List (WordRow M)) → rises (row ∷ rows) ≡ true → rises rows ≡ true
 rest_rises row [] up = refl
 rest_rises row (next ∷ rows) up = (less (order (word_of row) (word_of next)) (rises (next ∷ rows)) up).1
 
-adjacent : (rows : List WordRow) → rises rows ≡ true → (k : ℕ) (d : WordRow) → suc k < length rows → order (word_of (get_or rows k d)) (word_of (get_or rows (suc k) d)) ≡ Less
+adjacent : {M : Type 0} → (rows : List (WordRow M)) → rises rows ≡ true → (k : ℕ) (d : WordRow M) → suc k < length rows → order (word_of (get_or rows k d)) (word_of (get_or rows (suc k) d)) ≡ Less
 adjacent [] up k d lt = absurd (omega arith)
 adjacent (row ∷ rows) up zero d lt = below_later row rows up 0 d (omega arith)
 adjacent (row ∷ rows) up (suc k) d lt = adjacent rows (rest_rises row rows up) k d (omega arith)
 
-sorted : (rows : List WordRow) → rises rows ≡ true → IsSortedBy (λ a b. is_lt (order (word_of a) (word_of b))) rows
+sorted : {M : Type 0} → (rows : List (WordRow M)) → rises rows ≡ true → IsSortedBy (λ a b. is_lt (order (word_of a) (word_of b))) rows
 sorted rows up k d low lt =
     let next : k + 1 ≡ suc k = omega arith in
     ap (λ n. is_lt (order (word_of (get_or rows n d)) (word_of (get_or rows k d)))) next
@@ -47,15 +47,15 @@ same_word x y e = sym (is_eq-slice_cmp x y) ∙ ap is_eq e
 other_word : (x y : List ℕ) (o : Ordering) → is_eq o ≡ false → order x y ≡ o → bytes_eq x y ≡ false
 other_word x y o differs e = sym (is_eq-slice_cmp x y) ∙ ap is_eq e ∙ differs
 
-at_first : (row : WordRow) (rows : List WordRow) (word : List ℕ) → bytes_eq (word_of row) word ≡ true → code_at (row ∷ rows) word ≡ Some row.code
-unfolding code_at
-at_first row rows word e = ap (λ b. if b then Some row.code else code_at rows word) e
+at_first : {M : Type 0} → (row : WordRow M) (rows : List (WordRow M)) (word : List ℕ) → bytes_eq (word_of row) word ≡ true → meaning_at (row ∷ rows) word ≡ Some row.means
+unfolding meaning_at
+at_first row rows word e = ap (λ b. if b then Some row.means else meaning_at rows word) e
 
-behind_first : (row : WordRow) (rows : List WordRow) (word : List ℕ) → bytes_eq (word_of row) word ≡ false → code_at (row ∷ rows) word ≡ code_at rows word
-unfolding code_at
-behind_first row rows word e = ap (λ b. if b then Some row.code else code_at rows word) e
+behind_first : {M : Type 0} → (row : WordRow M) (rows : List (WordRow M)) (word : List ℕ) → bytes_eq (word_of row) word ≡ false → meaning_at (row ∷ rows) word ≡ meaning_at rows word
+unfolding meaning_at
+behind_first row rows word e = ap (λ b. if b then Some row.means else meaning_at rows word) e
 
-found : (rows : List WordRow) (word : List ℕ) → rises rows ≡ true → (k : ℕ) (d : WordRow) → k < length rows → order (word_of (get_or rows k d)) word ≡ Equal → code_at rows word ≡ Some (get_or rows k d).code
+found : {M : Type 0} → (rows : List (WordRow M)) (word : List ℕ) → rises rows ≡ true → (k : ℕ) (d : WordRow M) → k < length rows → order (word_of (get_or rows k d)) word ≡ Equal → meaning_at rows word ≡ Some (get_or rows k d).means
 found [] word up k d lt e = absurd (omega arith)
 found (row ∷ rows) word up zero d lt e = at_first row rows word (same_word (word_of row) word e)
 found (row ∷ rows) word up (suc k) d lt e =
@@ -63,18 +63,18 @@ found (row ∷ rows) word up (suc k) d lt e =
     let below : order (word_of row) word ≡ Less = subst (λ w. order (word_of row) w ≡ Less) word_is (below_later row rows up k d (omega arith)) in
     behind_first row rows word (other_word (word_of row) word Less refl below) ∙ found rows word (rest_rises row rows up) k d (omega arith) e
 
-absent : (rows : List WordRow) (word : List ℕ) → ((k : ℕ) (d : WordRow) → k < length rows → bytes_eq (word_of (get_or rows k d)) word ≡ false) → code_at rows word ≡ None
-unfolding code_at
+absent : {M : Type 0} → (rows : List (WordRow M)) (word : List ℕ) → ((k : ℕ) (d : WordRow M) → k < length rows → bytes_eq (word_of (get_or rows k d)) word ≡ false) → meaning_at rows word ≡ None
+unfolding meaning_at
 absent [] word others = refl
 absent (row ∷ rows) word others = behind_first row rows word (others 0 row (omega arith)) ∙ absent rows word (λ k d lt. others (suc k) d (omega arith))
 
-pub found_at : (rows : List WordRow) (word : List ℕ) (r : Result ℕ ℕ) → rises rows ≡ true → IsBinarySearchResult (λ row. order (word_of row) word) rows r → (k : ℕ) (d : WordRow) → r ≡ Ok k → k < length rows → code_at rows word ≡ Some (get_or rows k d).code
+pub found_at : {M : Type 0} → (rows : List (WordRow M)) (word : List ℕ) (r : Result ℕ ℕ) → rises rows ≡ true → IsBinarySearchResult (λ row. order (word_of row) word) rows r → (k : ℕ) (d : WordRow M) → r ≡ Ok k → k < length rows → meaning_at rows word ≡ Some (get_or rows k d).means
 found_at rows word (Ok i) up searched k d is lt =
     let same : i ≡ k = cc in
     found rows word up k d lt (subst (λ n. order (word_of (get_or rows n d)) word ≡ Equal) same (searched d))
 found_at rows word (Err i) up searched k d is lt = absurd (cc)
 
-pub found_nowhere : (rows : List WordRow) (word : List ℕ) (r : Result ℕ ℕ) → rises rows ≡ true → IsBinarySearchResult (λ row. order (word_of row) word) rows r → (k : ℕ) → r ≡ Err k → code_at rows word ≡ None
+pub found_nowhere : {M : Type 0} → (rows : List (WordRow M)) (word : List ℕ) (r : Result ℕ ℕ) → rises rows ≡ true → IsBinarySearchResult (λ row. order (word_of row) word) rows r → (k : ℕ) → r ≡ Err k → meaning_at rows word ≡ None
 found_nowhere rows word (Ok i) up searched k is = absurd (cc)
 found_nowhere rows word (Err i) up searched k is =
     let parts = searched (searchable_from_sorted nat_list_cmp_total word_of rows word (sorted rows up)) in

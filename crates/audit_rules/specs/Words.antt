@@ -1,4 +1,4 @@
--- The words of a table, and the code of a word.
+-- The words of a table, and the meaning of a word.
 use Rattle.std.specs.Prelude.{ℕ, zero, suc, Bool, true, ◌&&◌, List, [], ◌∷◌, Option, None, Some, bytes_eq, if◌then◌else◌}
 use Rattle.std.specs.Ordering.{is_lt, nat_cmp}
 use Rattle.std.specs.Cmp.Lexicographic.{slice_cmp}
@@ -16,16 +16,16 @@ without_zeros [] = []
 without_zeros (b ∷ bytes) = before b (without_zeros bytes)
 
 -- the word of a row
-abbrev pub word_of : WordRow → List ℕ
+abbrev pub word_of : {M : Type 0} → WordRow M → List ℕ
 word_of row = without_zeros row.word
 
 -- each word is below the next by its bytes
-abbrev pub rises : List WordRow → Bool
+abbrev pub rises : {M : Type 0} → List (WordRow M) → Bool
 rises [] = true
 rises (row ∷ []) = true
 rises (row ∷ next ∷ rows) = is_lt (slice_cmp nat_cmp (word_of row) (word_of next)) && rises (next ∷ rows)
 
--- the code of the row with this word
-unfoldable pub code_at : List WordRow → List ℕ → Option ℕ
-code_at [] word = None
-code_at (row ∷ rows) word = if bytes_eq (word_of row) word then Some row.code else code_at rows word
+-- the meaning of the row with this word
+unfoldable pub meaning_at : {M : Type 0} → List (WordRow M) → List ℕ → Option M
+meaning_at [] word = None
+meaning_at (row ∷ rows) word = if bytes_eq (word_of row) word then Some row.means else meaning_at rows word

@@ -22,7 +22,7 @@ use Rattle.cipher_port.specs.Tool.{Content, made_of}
 use Rattle.cipher_port.specs.StandinText.{IsStandinText, to_line}
 use Rattle.recipient_files.specs.IdText.{id_at}
 use Rattle.gopass_base.specs.Lines.{pieces_of}
-use Rattle.cipher_port.specs.Standin.{is_below, with_id, is_lower_digit, body_of, digits_at, from_body, from_recipients, from_header, standin_content}
+use Rattle.cipher_port.specs.Standin.{is_below, with_next, is_lower_digit, body_of, digits_at, from_body, from_recipients, from_header, standin_content}
 use Rattle.cipher_port.specs.StandinLaws.{lower_digit, lower_at, body_text, text_parts}
 use Rattle.gopass_base.proofs.LineLemmas.{IsOneLine, line_first}
 use Rattle.recipient_files.proofs.IdLemmas.{id_at-good, one_line_id}
@@ -78,8 +78,8 @@ among : (before : Ids) (id : Text) (more : Ids) → All IsId (before ++ id ∷ m
 among [] id more each = All-head IsId id more each
 among (first ∷ before) id more each = among before id more (All-tail IsId first (before ++ id ∷ more) each)
 
-id_again : (before : Ids) (id : Text) (more : Ids) → IsRecipients (before ++ id ∷ more) → with_id before id ≡ Some (before ++ id ∷ [])
-unfolding with_id
+id_again : (before : Ids) (id : Text) (more : Ids) → IsRecipients (before ++ id ∷ more) → with_next before id ≡ Some (before ++ id ∷ [])
+unfolding with_next
 id_again before id more is =
     let few = is.few in
     ap (λ t. cond t (option_map (λ x. before ++ x ∷ []) (id_at id)) None) (and_from (nat_lt (length before) 64) (list_all (is_below id) before) (lt-ltb (length before) 64 (omega (arith, few, length-append before (id ∷ more)))) (rising_place before id more is.rising))

@@ -7,11 +7,10 @@ use Rattle.std.proofs.lemmas.Bool.{cases_Bool, false_from_ne_true}
 use Rattle.std.proofs.lemmas.List.Splits.{join_with_byte-slice_split}
 use Rattle.std.proofs.lemmas.Slice.Eq.{bytes_eq-Decides}
 use Rattle.gopass_base.specs.Text.{Text}
-use Rattle.gopass_base.specs.Lines.{cut_at}
+use Rattle.gopass_base.specs.Lines.{cut_at, pieces_of}
 use Rattle.recipient_files.specs.Ids.{Ids}
 use Rattle.cipher_port.specs.Tool.{Content, made_of}
-use Rattle.gopass_base.specs.Lines.{pieces_of}
-use Rattle.cipher_port.specs.Standin.{with_id, begins, is_end, digits_at, body_of, from_body, from_recipients, from_header, standin_content}
+use Rattle.cipher_port.specs.Standin.{with_next, begins_with, is_end, digits_at, body_of, from_body, from_recipients, from_header, standin_content}
 use Rattle.cipher_port.specs.StandinReads.{Gives}
 use Rattle.cipher_port.specs.declared.standin.StandinFault.{StandinFault}
 use Rattle.cipher_port.specs.declared.standin.StandinFault.TheVariants.{NotSealed, NoMemory}
@@ -51,24 +50,24 @@ end_tells rest = elim (cases_Bool (is_end (pieces_of rest))) [
 -- ---- the lines
 
 -- one more id was read
-pub line_taken : (ids more : Ids) (bs x y : Text) (all : Option Content) → from_recipients ids (pieces_of bs) ≡ all → pair x y ≡ cut_at 10 bs → begins (codes "to ") x ≡ true → with_id ids (drop 3 x) ≡ Some more → from_recipients more (pieces_of y) ≡ all
+pub line_taken : (ids more : Ids) (bs x y : Text) (all : Option Content) → from_recipients ids (pieces_of bs) ≡ all → pair x y ≡ cut_at 10 bs → begins_with (codes "to ") x ≡ true → with_next ids (drop 3 x) ≡ Some more → from_recipients more (pieces_of y) ≡ all
 line_taken ids more bs x y all so_far cut to took =
     sym (ap (from_recipients ids) (pieces_cut bs x y (sym cut))
-    ∙ ap (λ t. cond t (option_and_then (λ more. from_recipients more (pieces_of y)) (with_id ids (drop 3 x))) (from_body ids x (pieces_of y))) to
+    ∙ ap (λ t. cond t (option_and_then (λ more. from_recipients more (pieces_of y)) (with_next ids (drop 3 x))) (from_body ids x (pieces_of y))) to
     ∙ ap (option_and_then (λ more. from_recipients more (pieces_of y))) took) ∙ so_far
 
 -- a line of no id
-pub line_refused : (ids : Ids) (bs x y : Text) (all : Option Content) → from_recipients ids (pieces_of bs) ≡ all → pair x y ≡ cut_at 10 bs → begins (codes "to ") x ≡ true → with_id ids (drop 3 x) ≡ None → all ≡ None
+pub line_refused : (ids : Ids) (bs x y : Text) (all : Option Content) → from_recipients ids (pieces_of bs) ≡ all → pair x y ≡ cut_at 10 bs → begins_with (codes "to ") x ≡ true → with_next ids (drop 3 x) ≡ None → all ≡ None
 line_refused ids bs x y all so_far cut to refused =
     sym so_far ∙ (ap (from_recipients ids) (pieces_cut bs x y (sym cut))
-    ∙ ap (λ t. cond t (option_and_then (λ more. from_recipients more (pieces_of y)) (with_id ids (drop 3 x))) (from_body ids x (pieces_of y))) to
+    ∙ ap (λ t. cond t (option_and_then (λ more. from_recipients more (pieces_of y)) (with_next ids (drop 3 x))) (from_body ids x (pieces_of y))) to
     ∙ ap (option_and_then (λ more. from_recipients more (pieces_of y))) refused)
 
 -- a line of another kind
-pub line_other : (ids : Ids) (bs x y : Text) (all : Option Content) → from_recipients ids (pieces_of bs) ≡ all → pair x y ≡ cut_at 10 bs → begins (codes "to ") x ≡ false → all ≡ from_body ids x (pieces_of y)
+pub line_other : (ids : Ids) (bs x y : Text) (all : Option Content) → from_recipients ids (pieces_of bs) ≡ all → pair x y ≡ cut_at 10 bs → begins_with (codes "to ") x ≡ false → all ≡ from_body ids x (pieces_of y)
 line_other ids bs x y all so_far cut other =
     sym so_far ∙ (ap (from_recipients ids) (pieces_cut bs x y (sym cut))
-    ∙ ap (λ t. cond t (option_and_then (λ more. from_recipients more (pieces_of y)) (with_id ids (drop 3 x))) (from_body ids x (pieces_of y))) other)
+    ∙ ap (λ t. cond t (option_and_then (λ more. from_recipients more (pieces_of y)) (with_next ids (drop 3 x))) (from_body ids x (pieces_of y))) other)
 
 -- what stands behind the last LF is no line
 alone : (ids : Ids) (rest : Text) → from_body ids rest [] ≡ None
@@ -77,7 +76,7 @@ alone ids rest = elim (length ids == 0) as (λ t. cond t None (option_map (made_
 
 -- no line is left
 pub lines_done : (ids : Ids) (bs : Text) (all : Option Content) → from_recipients ids (pieces_of bs) ≡ all → None ≡ cut_at 10 bs → all ≡ None
-lines_done ids bs all so_far cut = sym so_far ∙ (ap (from_recipients ids) (pieces_end bs (sym cut)) ∙ last (begins (codes "to ") bs) (with_id ids (drop 3 bs)))
+lines_done ids bs all so_far cut = sym so_far ∙ (ap (from_recipients ids) (pieces_end bs (sym cut)) ∙ last (begins_with (codes "to ") bs) (with_next ids (drop 3 bs)))
   where
     last : (to : Bool) (next : Option Ids) → cond to (option_and_then (λ more. from_recipients more []) next) (from_body ids bs []) ≡ None
     last true None = refl

@@ -23,14 +23,14 @@ abbrev pub has_place : Ids → Text → Bool
 has_place ids text = nat_lt (length ids) 64 && list_all (is_below text) ids
 
 -- the ids with one more, if the text is an id that has its place there
-unfoldable pub with_id : Ids → Text → Option Ids
-with_id ids text = if has_place ids text then option_map (λ id. ids ++ id ∷ []) (id_at text) else None
+unfoldable pub with_next : Ids → Text → Option Ids
+with_next ids text = if has_place ids text then option_map (λ id. ids ++ id ∷ []) (id_at text) else None
 
 -- ---- the lines
 
 -- whether a line begins with a word
-abbrev pub begins : Text → Text → Bool
-begins word line = bytes_eq (take (length word) line) word
+abbrev pub begins_with : Text → Text → Bool
+begins_with word line = bytes_eq (take (length word) line) word
 
 -- whether the lines are `end` and nothing more
 abbrev pub is_end : List Text → Bool
@@ -41,7 +41,7 @@ is_end (line ∷ rest ∷ next ∷ more) = false
 
 -- the digits of the line of a body, if the end follows it
 unfoldable pub digits_at : Text → List Text → Option Text
-digits_at line after = if is_end after && begins (codes "body ") line then Some (drop 5 line) else None
+digits_at line after = if is_end after && begins_with (codes "body ") line then Some (drop 5 line) else None
 
 -- a decimal digit, or `a` to `f`
 abbrev pub is_lower_digit : ℕ → Bool
@@ -65,7 +65,7 @@ from_body ids line after =
 abbrev pub from_recipients : Ids → List Text → Option Content
 from_recipients ids [] = None
 from_recipients ids (line ∷ after) =
-    if begins (codes "to ") line then option_and_then (λ more. from_recipients more after) (with_id ids (drop 3 line))
+    if begins_with (codes "to ") line then option_and_then (λ more. from_recipients more after) (with_next ids (drop 3 line))
     else from_body ids line after
 
 -- what lines are the text of, from the header on

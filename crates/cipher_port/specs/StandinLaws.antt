@@ -28,7 +28,7 @@ use Rattle.recipient_files.specs.IdText.{is_id, id_at}
 use Rattle.recipient_files.proofs.IdLemmas.{is_id_tells}
 use Rattle.cipher_port.specs.Tool.{Content, IsSealing, made_of}
 use Rattle.cipher_port.specs.StandinText.{IsStandinText, standin_text, to_line}
-use Rattle.cipher_port.specs.Standin.{is_below, has_place, with_id, begins, is_end, digits_at, is_lower_digit, are_body_digits, body_of, from_body, from_recipients, from_header, standin_content}
+use Rattle.cipher_port.specs.Standin.{is_below, has_place, with_next, begins_with, is_end, digits_at, is_lower_digit, are_body_digits, body_of, from_body, from_recipients, from_header, standin_content}
 use Rattle.cipher_port.specs.StandinReads.{IsSoFar}
 
 -- ---- what a value under a test or a step shows
@@ -74,9 +74,9 @@ rising_snoc (id ∷ ids) text rising below =
     )
 
 -- ids with one more are ids as those of recipients
-pub with_id_gives : (ids : Ids) (text : Text) (more : Ids) → IsSoFar ids → with_id ids text ≡ Some more → (more ≡ ids ++ text ∷ []) × IsSoFar more
-unfolding with_id id_at
-with_id_gives ids text more so_far e =
+pub with_next_gives : (ids : Ids) (text : Text) (more : Ids) → IsSoFar ids → with_next ids text ≡ Some more → (more ≡ ids ++ text ∷ []) × IsSoFar more
+unfolding with_next id_at
+with_next_gives ids text more so_far e =
     let (place, mapping) = given (has_place ids text) (option_map (λ id. ids ++ id ∷ []) (id_at text)) more e in
     let (id, was, made) = mapped (λ id. ids ++ id ∷ []) (id_at text) more mapping in
     let (good, same) = given (is_id text) (Some text) id was in
@@ -225,8 +225,8 @@ body_says digits body e =
 -- ---- lines
 
 -- a line that begins with a word is that word and what is behind it
-begins_says : (word line : Text) → begins word line ≡ true → line ≡ word ++ drop (length word) line
-begins_says word line is = sym (take-append-drop (length word) line) ∙ ap (λ t. t ++ drop (length word) line) ((bytes_eq-Decides (take (length word) line) word).0 is)
+begins_with_says : (word line : Text) → begins_with word line ≡ true → line ≡ word ++ drop (length word) line
+begins_with_says word line is = sym (take-append-drop (length word) line) ∙ ap (λ t. t ++ drop (length word) line) ((bytes_eq-Decides (take (length word) line) word).0 is)
 
 -- a line joined to lines
 joined : (line : Text) (lines : List Text) → 0 < length lines → join_with_byte 10 (line ∷ lines) ≡ line ++ 10 ∷ join_with_byte 10 lines
@@ -274,12 +274,12 @@ body_line_says ids line after c so_far e =
     let (some, making) = unless (length ids == 0) (option_map (made_of ids) (option_and_then body_of (digits_at line after))) c e in
     let (body, reading, made) = mapped (made_of ids) (option_and_then body_of (digits_at line after)) c making in
     let (digits, at, reads) = found body_of (digits_at line after) body reading in
-    let (tests, same) = given (is_end after && begins (codes "body ") line) (Some (drop 5 line)) digits at in
-    let parts = and_parts (is_end after) (begins (codes "body ") line) tests in
+    let (tests, same) = given (is_end after && begins_with (codes "body ") line) (Some (drop 5 line)) digits at in
+    let parts = and_parts (is_end after) (begins_with (codes "body ") line) tests in
     let short : drop 5 line ≡ digits = cc in
     subst (λ t. Says ids (line ∷ t) c) (sym (is_end_only after parts.0))
     (subst (Says ids (line ∷ codes "end" ∷ [] ∷ [])) made
-    (says_body ids line digits body so_far (one (length ids) some) (begins_says (codes "body ") line parts.1 ∙ ap (λ t. codes "body " ++ t) short) (body_says digits body reads)))
+    (says_body ids line digits body so_far (one (length ids) some) (begins_with_says (codes "body ") line parts.1 ∙ ap (λ t. codes "body " ++ t) short) (body_says digits body reads)))
   where
     one : (n : ℕ) → (n == 0) ≡ false → 1 ≤ n
     one n other = grind (arith, nat_tests)
@@ -292,11 +292,11 @@ lines_left ids (line ∷ lines) c e = omega arith
 lines_say : (ids : Ids) (lines : List Text) (c : Content) → IsSoFar ids → from_recipients ids lines ≡ Some c → Says ids lines c
 lines_say ids [] c so_far e = cc
 lines_say ids (line ∷ after) c so_far e =
-    elim (either (begins (codes "to ") line) (option_and_then (λ more. from_recipients more after) (with_id ids (drop 3 line))) (from_body ids line after) c e) [
+    elim (either (begins_with (codes "to ") line) (option_and_then (λ more. from_recipients more after) (with_next ids (drop 3 line))) (from_body ids line after) c e) [
       | inl (to, reading) ↦
-          let (more, added, rest) = found (λ more. from_recipients more after) (with_id ids (drop 3 line)) c reading in
-          let (same, next) = with_id_gives ids (drop 3 line) more so_far added in
-          says_id ids more line (drop 3 line) after c (begins_says (codes "to ") line to) same (lines_left more after c rest) (lines_say more after c next rest)
+          let (more, added, rest) = found (λ more. from_recipients more after) (with_next ids (drop 3 line)) c reading in
+          let (same, next) = with_next_gives ids (drop 3 line) more so_far added in
+          says_id ids more line (drop 3 line) after c (begins_with_says (codes "to ") line to) same (lines_left more after c rest) (lines_say more after c next rest)
       | inr (other, rest) ↦ body_line_says ids line after c so_far rest
     ]
 

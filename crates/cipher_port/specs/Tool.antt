@@ -1,8 +1,8 @@
 -- What a cipher tool means: which bytes open to what, and for whom it seals and opens.
 use Rattle.std.specs.Prelude.{◌≡◌, ℕ, ◌<◌, ◌≤◌, Bool, true, false, not, length, position, Option, None, Some, Result, Ok, Err, Vec}
 use Rattle.std.specs.List.{list_any}
-use Rattle.gopass_base.specs.Text.{Text}
-use Rattle.recipient_files.specs.Ids.{Ids, IsRecipients, is_among}
+use Rattle.gopass_base.specs.Text.{Text, is_among}
+use Rattle.recipient_files.specs.Ids.{Ids, IsRecipients}
 use Rattle.cipher_port.specs.declared.cipher.SealFault.{SealFault}
 use Rattle.cipher_port.specs.declared.cipher.SealFault.TheVariants as seal
 use Rattle.cipher_port.specs.declared.cipher.WhomFault.{WhomFault}

@@ -4,7 +4,7 @@ ghost use Rattle.std.specs.Prelude.{◌≡◌, ◌↔◌, ◌<◌, ◌≤◌, �
 ghost use Rattle.std.specs.List.{list_any};
 ghost use Rattle.gopass_base.specs.Calls.{no_calls, next_calls};
 ghost use Rattle.gopass_base.specs.Faults.{HasCause};
-ghost use Rattle.recipient_files.specs.Ids.{is_among};
+ghost use Rattle.gopass_base.specs.Text.{is_among};
 ghost use Rattle.cipher_port.specs.Tool.{Seals, Unseals, TellsIds, made_of};
 ghost use Rattle.cipher_port.specs.Standin.{standin_content};
 

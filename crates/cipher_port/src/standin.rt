@@ -7,14 +7,14 @@ ghost use Rattle.gopass_base.specs.Lines.{pieces_of};
 ghost use Rattle.recipient_files.specs.IdText.{id_at};
 ghost use Rattle.cipher_port.specs.Tool.{Content, made_of};
 ghost use Rattle.cipher_port.specs.StandinText.{IsStandinText, standin_text, to_line};
-ghost use Rattle.cipher_port.specs.Standin.{has_place, with_id, is_end, digits_at, are_body_digits, body_of, from_body, from_recipients, standin_content};
+ghost use Rattle.cipher_port.specs.Standin.{has_place, with_next, is_end, digits_at, are_body_digits, body_of, from_body, from_recipients, standin_content};
 ghost use Rattle.cipher_port.specs.StandinReads.{Gives, IsSoFar};
 ghost use Rattle.cipher_port.specs.declared.standin.StandinFault.TheVariants.{NoMemory};
 
 use crate::{Id, IdFault, Recipients};
-use gopass_base::{NoMemory as NoRoom, cut};
+use gopass_base::{NoMemory as NoRoom, cut, push, push_line};
 use hex::FromHexError;
-use std::alloc::{AllocFailed, Global};
+use std::alloc::Global;
 
 /// For whom a file is sealed, and its body.
 #[derive(Debug, Drop)]
@@ -31,10 +31,10 @@ pub enum StandinFault {
     NoMemory,
 }
 
-impl<T: Drop> From<AllocFailed<T>> for StandinFault {
+impl From<NoRoom> for StandinFault {
     ghost from_gives = { λ _ e. e ≡ NoMemory };
 
-    fn from(_: AllocFailed<T>) -> Self {
+    fn from(_: NoRoom) -> Self {
         StandinFault::NoMemory
     }
 }
@@ -95,9 +95,7 @@ fn push_id(text: &mut Vec<u8>, id: &Id) -> Result<(), NoRoom>
     ensures { IfOk result (λ _. text.new.items ≡ text.old.items ++ to_line id.now) }
 {
     text.extend_from_slice(b"to ")?;
-    text.extend_from_slice(id.text().as_bytes())?;
-    text.push(b'\n')?;
-    Ok(())
+    push_line(text, id.text().as_bytes())
 }
 
 /// Bytes are read as what they are the text of, and no bytes are the text of two contents.
@@ -123,15 +121,15 @@ fn read_lines(alloc: Global, lines: &[u8]) -> Result<Sealed, StandinFault>
 }
 
 /// Adds the id that the text is, where it is above the ids so far and they are fewer than 64.
-#[tactic(auto, unfolding(crate::specs::Standin::with_id))]
+#[tactic(auto, unfolding(crate::specs::Standin::with_next))]
 fn add_id(alloc: Global, ids: &mut Vec<Id>, text: &[u8]) -> Result<(), StandinFault>
-    ensures { Gives (λ _. ids.new.items) result (with_id ids.old.items text.now) }
+    ensures { Gives (λ _. ids.new.items) result (with_next ids.old.items text.now) }
 {
     if !has_place(ids, text) {
         return Err(StandinFault::NotSealed);
     }
     let id = read_id(alloc, text)?;
-    ids.push(id)?;
+    push(ids, id)?;
     Ok(())
 }
 

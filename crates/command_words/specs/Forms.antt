@@ -1,5 +1,5 @@
 -- The commands, and what each takes.
-use Rattle.std.specs.Prelude.{ℕ, ◌==◌, true, false, List, [], ◌∷◌, Option, None, Some, codes, if◌then◌else◌}
+use Rattle.std.specs.Prelude.{true, false, List, [], ◌∷◌, Option, codes}
 use Rattle.gopass_base.specs.Text.{Text}
 use Rattle.command_words.specs.Lookup.{Meant, meaning_of}
 use Rattle.command_words.specs.Options.{no_flags}
@@ -32,14 +32,3 @@ form_of Ls = record { least = 0; most = 1; flags = record no_flags { flat = true
 form_of Mounts = record { least = 0; most = 0; flags = no_flags; has_subcommands = true }
 form_of Recipients = record { least = 0; most = 0; flags = no_flags; has_subcommands = true }
 form_of Show = record { least = 1; most = 1; flags = no_flags; has_subcommands = false }
-
--- the command of a row of the table
-abbrev pub verb_with : ℕ → Option Verb
-verb_with code =
-    if code == 0 then Some Find
-    else if code == 1 then Some Ls
-    else if code == 2 then Some Show
-    else if code == 3 then Some Mounts
-    else if code == 4 then Some Recipients
-    else if code == 5 then Some Insert
-    else None

@@ -1,5 +1,5 @@
 -- Options without a value.
-use Rattle.std.specs.Prelude.{ℕ, ◌==◌, Bool, true, false, List, [], ◌∷◌, Option, None, Some, codes, if◌then◌else◌}
+use Rattle.std.specs.Prelude.{Bool, true, false, List, [], ◌∷◌, Option, codes}
 use Rattle.gopass_base.specs.Text.{Text}
 use Rattle.command_words.specs.Lookup.{Meant, meaning_of}
 use Rattle.command_words.specs.declared.options.Flag.{Flag}
@@ -19,14 +19,6 @@ spellings =
 -- the option that a word spells
 abbrev pub flag_at : Text → Option Flag
 flag_at word = meaning_of spellings word
-
--- the option of a row of the table
-abbrev pub flag_with : ℕ → Option Flag
-flag_with code =
-    if code == 0 then Some Flat
-    else if code == 1 then Some Force
-    else if code == 2 then Some Multi
-    else None
 
 abbrev pub no_flags : Flags
 no_flags = record { flat = false; force = false; multi = false }

@@ -1,7 +1,7 @@
 //! Options without a value.
 
 ghost use Rattle.std.specs.Prelude.{◌≡◌};
-ghost use Rattle.command_words.specs.Options.{flag_at, flag_with, has, no_flags, with};
+ghost use Rattle.command_words.specs.Options.{flag_at, has, no_flags, with};
 
 use audit_rules::{WordRow, find, word_table};
 
@@ -62,32 +62,17 @@ impl Flags {
 }
 
 /// The spellings of the options.
-const SPELLINGS: [WordRow; 5] = word_table![
-    b"--flat" => 0,
-    b"--force" => 1,
-    b"--multiline" => 2,
-    b"-f" => 1,
-    b"-m" => 2,
+const SPELLINGS: [WordRow<Flag>; 5] = word_table![
+    b"--flat" => Flag::Flat,
+    b"--force" => Flag::Force,
+    b"--multiline" => Flag::Multi,
+    b"-f" => Flag::Force,
+    b"-m" => Flag::Multi,
 ];
-
-/// The option of a row of the table of spellings.
-fn flag_with(code: u16) -> Option<Flag>
-    ensures { result ≡ flag_with code }
-{
-    match code {
-        0 => Some(Flag::Flat),
-        1 => Some(Flag::Force),
-        2 => Some(Flag::Multi),
-        _ => None,
-    }
-}
 
 /// The option that a word spells, or None where it spells none.
 pub(crate) fn flag_of(word: &str) -> Option<Flag>
     ensures { result ≡ flag_at word.now }
 {
-    match find(&SPELLINGS, word) {
-        Some(code) => flag_with(code),
-        None => None,
-    }
+    find(&SPELLINGS, word)
 }

@@ -1,5 +1,6 @@
 use super::*;
 use std::alloc::Global;
+use std::process::Abort;
 use std::test::*;
 
 /// What the words give, as `Debug` writes it.
@@ -15,7 +16,7 @@ fn told(alloc: Global, words: &[&str]) -> Result<String, Fail> {
 /// The words, and what they give.
 type Row<'a> = (&'a [&'a str], &'a str);
 
-const ROWS: &[Row] = &[
+const READ: &[Row] = &[
     // commands
     (&["show", "a/b"], r#"Ok(Show { name: "a/b" })"#),
     (&["find", "x y"], r#"Ok(Find { text: "x y" })"#),
@@ -66,6 +67,9 @@ const ROWS: &[Row] = &[
         &["insert", "--force", "--multiline", "a"],
         r#"Ok(Insert { name: "a", force: true, multi: true })"#,
     ),
+];
+
+const UNKNOWN: &[Row] = &[
     // a word that is no command
     (&[], "Err(Bad { at: 0 })"),
     (&[""], "Err(Bad { at: 0 })"),
@@ -78,6 +82,11 @@ const ROWS: &[Row] = &[
     (&["--", "ls"], "Err(Bad { at: 0 })"),
     (&["-f", "insert", "a"], "Err(Bad { at: 0 })"),
     (&["grep", "a"], "Err(Bad { at: 0 })"),
+    // a capital letter is another byte, and a word may be as long as a row of the table, or longer
+    (&["LS"], "Err(Bad { at: 0 })"),
+    (&["lS"], "Err(Bad { at: 0 })"),
+    (&["recipientsrecipi"], "Err(Bad { at: 0 })"),
+    (&["recipientsrecipie"], "Err(Bad { at: 0 })"),
     // a command that looks at its second word, and no subcommand
     (&["mounts", "add", "a", "b"], "Err(Bad { at: 1 })"),
     (&["mounts", "--"], "Err(Bad { at: 1 })"),
@@ -91,6 +100,11 @@ const ROWS: &[Row] = &[
     (&["show", "a", "--flat"], "Err(Bad { at: 2 })"),
     (&["find", "-x"], "Err(Bad { at: 1 })"),
     (&["ls", "--Flat"], "Err(Bad { at: 1 })"),
+    (&["ls", "--flaT"], "Err(Bad { at: 1 })"),
+    (&["insert", "-F", "a"], "Err(Bad { at: 1 })"),
+    (&["insert", "a", "-M"], "Err(Bad { at: 2 })"),
+    (&["insert", "--multiline-text", "a"], "Err(Bad { at: 1 })"),
+    (&["insert", "--multiline-texts", "a"], "Err(Bad { at: 1 })"),
     (&["ls", "--flat=a"], "Err(Bad { at: 1 })"),
     (&["show", "a", "-é"], "Err(Bad { at: 2 })"),
     (&["show", "-f", "a"], "Err(Bad { at: 1 })"),
@@ -100,6 +114,9 @@ const ROWS: &[Row] = &[
     (&["insert", "-fm", "a"], "Err(Bad { at: 1 })"),
     (&["insert", "--multi", "a"], "Err(Bad { at: 1 })"),
     (&["insert", "-f", "--flat", "a"], "Err(Bad { at: 2 })"),
+];
+
+const PLACED: &[Row] = &[
     // an option twice
     (&["ls", "--flat", "--flat"], "Err(Bad { at: 2 })"),
     (&["ls", "--flat", "a", "--flat"], "Err(Bad { at: 3 })"),
@@ -148,10 +165,25 @@ const ROWS: &[Row] = &[
     (&["show", ""], r#"Ok(Show { name: "" })"#),
 ];
 
-#[test]
-fn words_read_or_fail_at_the_first_bad_one(rt: HostRuntime) -> Result<(), Fail> {
-    for (words, answer) in ROWS {
+/// The words of each row give what it says.
+fn check<R: Abort + AllocGlobal>(rt: &R, rows: &[Row]) -> Result<(), Fail> {
+    for (words, answer) in rows {
         assert_eq!(rt; told(rt.alloc(), words)?.as_str(), *answer, "{words:?}");
     }
     Ok(())
+}
+
+#[test]
+fn commands_are_read_with_their_options(rt: HostRuntime) -> Result<(), Fail> {
+    check(&rt, READ)
+}
+
+#[test]
+fn unknown_words_are_bad(rt: HostRuntime) -> Result<(), Fail> {
+    check(&rt, UNKNOWN)
+}
+
+#[test]
+fn words_are_bad_by_their_place(rt: HostRuntime) -> Result<(), Fail> {
+    check(&rt, PLACED)
 }

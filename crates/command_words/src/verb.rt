@@ -1,7 +1,7 @@
 //! The commands' words, and what each command takes.
 
 ghost use Rattle.std.specs.Prelude.{◌≡◌, false};
-ghost use Rattle.command_words.specs.Forms.{form_of, verb_at, verb_with};
+ghost use Rattle.command_words.specs.Forms.{form_of, verb_at};
 
 use crate::options::{Flag, Flags};
 use audit_rules::{WordRow, find, word_table};
@@ -28,39 +28,21 @@ pub(crate) struct Form {
 }
 
 /// The words of the commands.
-const COMMANDS: [WordRow; 7] = word_table![
-    b"find" => 0,
-    b"insert" => 5,
-    b"list" => 1,
-    b"ls" => 1,
-    b"mounts" => 3,
-    b"recipients" => 4,
-    b"show" => 2,
+const COMMANDS: [WordRow<Verb>; 7] = word_table![
+    b"find" => Verb::Find,
+    b"insert" => Verb::Insert,
+    b"list" => Verb::Ls,
+    b"ls" => Verb::Ls,
+    b"mounts" => Verb::Mounts,
+    b"recipients" => Verb::Recipients,
+    b"show" => Verb::Show,
 ];
-
-/// The command of a row of the table of words.
-fn verb_with(code: u16) -> Option<Verb>
-    ensures { result ≡ verb_with code }
-{
-    match code {
-        0 => Some(Verb::Find),
-        1 => Some(Verb::Ls),
-        2 => Some(Verb::Show),
-        3 => Some(Verb::Mounts),
-        4 => Some(Verb::Recipients),
-        5 => Some(Verb::Insert),
-        _ => None,
-    }
-}
 
 /// The command whose word this is, or None where no command has it.
 pub(crate) fn verb_of(word: &str) -> Option<Verb>
     ensures { result ≡ verb_at word.now }
 {
-    match find(&COMMANDS, word) {
-        Some(code) => verb_with(code),
-        None => None,
-    }
+    find(&COMMANDS, word)
 }
 
 /// A command that takes so many plain words and these options, and no subcommand.

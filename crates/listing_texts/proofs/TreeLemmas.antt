@@ -6,11 +6,12 @@ use Rattle.std.specs.List.{repeat}
 use Rattle.std.proofs.lemmas.Slice.Eq.{bytes_eq-Decides}
 use Rattle.std.proofs.lemmas.List.Splits.{slice_split_none, slice_split_at}
 use Rattle.gopass_base.specs.Text.{Text}
-use Rattle.mount_table.specs.Names.{parts, folders}
+use Rattle.gopass_base.specs.Parts.{parts}
+use Rattle.mount_table.specs.Names.{folders}
 use Rattle.mount_table.specs.NameFaults.{span}
 use Rattle.mount_table.specs.Prefixes.{rest_start, Holds}
 use Rattle.mount_table.proofs.PartLemmas.{parts_fill}
-use Rattle.mount_table.proofs.JoinLemmas.{parts_join}
+use Rattle.gopass_base.proofs.JoinLemmas.{parts_join}
 use Rattle.mount_table.proofs.FolderLemmas.{bytes_by_holds}
 use Rattle.mount_table.proofs.RestLemmas.{start_other}
 use Rattle.listing_texts.specs.Tree.{below, common, last_part, tree_line, folder_line, folder_lines, secret_lines}

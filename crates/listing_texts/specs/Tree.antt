@@ -3,7 +3,8 @@
 use Rattle.std.specs.Prelude.{ℕ, ◌+◌, ◌-◌, List, [], ◌∷◌, ◌++◌, length, drop, codes, bytes_eq, if◌then◌else◌}
 use Rattle.std.specs.List.{repeat}
 use Rattle.gopass_base.specs.Text.{Text}
-use Rattle.mount_table.specs.Names.{parts, folders}
+use Rattle.gopass_base.specs.Parts.{parts}
+use Rattle.mount_table.specs.Names.{folders}
 use Rattle.mount_table.specs.NameFaults.{part_at}
 use Rattle.mount_table.specs.Prefixes.{folder_parts}
 

@@ -1,11 +1,11 @@
 //! Names on lines of their own, and the text of a folder.
 
-ghost use Rattle.std.specs.Prelude.{◌≡◌, ◌∷◌, ◌++◌, [], IfOk, OnOk};
+ghost use Rattle.std.specs.Prelude.{◌≡◌, [], IfOk};
 ghost use Rattle.listing_texts.specs.Lines.{on_lines, shown_folder};
 
-use gopass_base::NoMemory;
+use gopass_base::{NoMemory, push_line};
 use mount_table::{Folder, Name};
-use std::alloc::{AllocError, Global};
+use std::alloc::Global;
 
 /// The names in their order, each with a line feed behind it.
 pub fn on_lines(alloc: Global, names: &[Name]) -> Result<Vec<u8>, NoMemory>
@@ -13,17 +13,9 @@ pub fn on_lines(alloc: Global, names: &[Name]) -> Result<Vec<u8>, NoMemory>
 {
     let mut text = Vec::new(alloc);
     for name in names {
-        push_on_line(&mut text, name.text())?;
+        push_line(&mut text, name.text().as_bytes())?;
     }
     Ok(text)
-}
-
-/// Appends the line, and a line feed.
-pub(crate) fn push_on_line(text: &mut Vec<u8>, line: &str) -> Result<(), AllocError>
-    ensures { OnOk result (text.new.items ≡ text.old.items ++ (line.now ++ 10 ∷ [])) }
-{
-    text.extend_from_slice(line.as_bytes())?;
-    text.extend_from_slice(b"\n")
 }
 
 /// The folder's text, or `/` for the root folder.

@@ -4,9 +4,9 @@ ghost use Rattle.std.specs.Prelude.{◌≡◌, ◌∷◌, ◌++◌, [], IfOk, On
 ghost use Rattle.listing_texts.specs.MountLines.{mount_line, mounts_listing};
 
 use crate::lines::shown_folder;
-use gopass_base::NoMemory;
+use gopass_base::{NoMemory, push_line};
 use mount_table::{Mounts, Row};
-use std::alloc::{AllocError, Global};
+use std::alloc::Global;
 
 /// A line for each mount, in their order: its alias, `/` for that of the root, a tab, its directory,
 /// a tab, `git` or `plain`, and a line feed.
@@ -20,7 +20,7 @@ pub fn mounts_text(alloc: Global, mounts: &Mounts) -> Result<Vec<u8>, NoMemory>
     Ok(text)
 }
 
-fn push_mount(text: &mut Vec<u8>, row: &Row) -> Result<(), AllocError>
+fn push_mount(text: &mut Vec<u8>, row: &Row) -> Result<(), NoMemory>
     ensures { OnOk result (text.new.items ≡ text.old.items ++ (mount_line row.now ++ 10 ∷ [])) }
 {
     let flag = if row.git { "git" } else { "plain" };
@@ -28,6 +28,5 @@ fn push_mount(text: &mut Vec<u8>, row: &Row) -> Result<(), AllocError>
     text.extend_from_slice(b"\t")?;
     text.extend_from_slice(row.dir.text().as_bytes())?;
     text.extend_from_slice(b"\t")?;
-    text.extend_from_slice(flag.as_bytes())?;
-    text.extend_from_slice(b"\n")
+    push_line(text, flag.as_bytes())
 }

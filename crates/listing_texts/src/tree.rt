@@ -3,13 +3,14 @@
 ghost use Rattle.std.specs.Prelude.{◌≡◌, ◌≢◌, ◌∷◌, ◌++◌, [], List, All, IfOk, OnOk, MatchOption, codes};
 ghost use Rattle.std.specs.List.{repeat};
 ghost use Rattle.gopass_base.specs.Text.{Text};
-ghost use Rattle.mount_table.specs.Names.{parts, folders};
+ghost use Rattle.gopass_base.specs.Parts.{parts};
+ghost use Rattle.mount_table.specs.Names.{folders};
 ghost use Rattle.mount_table.specs.Prefixes.{Holds};
 ghost use Rattle.listing_texts.specs.Tree.{below, tree_line, folder_line, secret_lines, tree_of};
 
-use gopass_base::NoMemory;
+use gopass_base::{NoMemory, push_line};
 use mount_table::{Folder, Name};
-use std::alloc::{AllocError, Global};
+use std::alloc::Global;
 
 /// The tree of these secrets of the folder. Each secret prints its last part on a line, and before
 /// it a line for each of its folders below this one that the line before was not inside. A line
@@ -39,7 +40,7 @@ fn rest_below<'a>(folder: &Folder, name: &'a Name) -> &'a str
 
 /// Appends the lines of a secret, by the rest of its name, where `before` is that of the secret on the
 /// line before.
-fn push_secret(text: &mut Vec<u8>, before: &str, rest: &str) -> Result<(), AllocError>
+fn push_secret(text: &mut Vec<u8>, before: &str, rest: &str) -> Result<(), NoMemory>
     ensures { OnOk result (text.new.items ≡ text.old.items ++ secret_lines (folders (parts before.now)) (parts rest.now)) }
 {
     let mut inside = before;
@@ -76,26 +77,27 @@ fn behind_folder<'a>(text: &'a str, folder: &str) -> Option<&'a str>
     }
 }
 
-fn push_folder(text: &mut Vec<u8>, depth: usize, folder: &str) -> Result<(), AllocError>
+fn push_folder(text: &mut Vec<u8>, depth: usize, folder: &str) -> Result<(), NoMemory>
     ensures { OnOk result (text.new.items ≡ text.old.items ++ folder_line depth folder.now) }
 {
-    push_indented(text, depth, folder)?;
-    text.extend_from_slice(b"/\n")
+    indent(text, depth)?;
+    text.extend_from_slice(folder.as_bytes())?;
+    push_line(text, b"/")
 }
 
-fn push_last(text: &mut Vec<u8>, depth: usize, part: &str) -> Result<(), AllocError>
+fn push_last(text: &mut Vec<u8>, depth: usize, part: &str) -> Result<(), NoMemory>
     ensures { OnOk result (text.new.items ≡ text.old.items ++ tree_line depth part.now) }
 {
-    push_indented(text, depth, part)?;
-    text.extend_from_slice(b"\n")
+    indent(text, depth)?;
+    push_line(text, part.as_bytes())
 }
 
-/// Appends two spaces for each folder above, and the part.
-fn push_indented(text: &mut Vec<u8>, depth: usize, part: &str) -> Result<(), AllocError>
-    ensures { OnOk result (text.new.items ≡ text.old.items ++ (repeat depth (codes "  ") ++ part.now)) }
+/// Appends two spaces for each folder above.
+fn indent(text: &mut Vec<u8>, depth: usize) -> Result<(), NoMemory>
+    ensures { OnOk result (text.new.items ≡ text.old.items ++ repeat depth (codes "  ")) }
 {
     for above in 0..depth {
         text.extend_from_slice(b"  ")?;
     }
-    text.extend_from_slice(part.as_bytes())
+    Ok(())
 }

@@ -3,7 +3,7 @@ use Rattle.std.proofs.Common.{◌≡◌, ◌↔◌, ℕ, ◌<◌, List, length, 
 use Rattle.std.specs.Bool.{one_answer}
 use Rattle.std.specs.Cmp.Lexicographic.{pointwise, pointwise_decides, bytes_decides}
 use Rattle.gopass_base.specs.Text.{Text}
-use Rattle.mount_table.specs.Names.{parts}
+use Rattle.gopass_base.specs.Parts.{parts}
 use Rattle.mount_table.specs.NameFaults.{start_of}
 use Rattle.mount_table.specs.Prefixes.{rest_start}
 use Rattle.mount_table.specs.Mounts.{IsTable, IsMountOf, root_of, row_at}

@@ -3,15 +3,17 @@ use Rattle.std.proofs.Common.{◌≡◌, ℕ, zero, suc, ◌<◌, ◌≤◌, Lis
 use Rattle.std.specs.List.{zip, insert, remove}
 use Rattle.std.specs.Ordering.{nat_cmp, is_lt, is_eq, eq_by_cmp}
 use Rattle.std.specs.declared.cmp.Ordering.{Ordering}
-use Rattle.std.specs.declared.cmp.Ordering.TheVariants.{Equal}
+use Rattle.std.specs.declared.cmp.Ordering.TheVariants.{Equal, Less}
 use Rattle.std.specs.Cmp.Lexicographic.{slice_cmp}
 use Rattle.std.specs.FinMap.Entries.{is_sorted, below_all, find, put, where_key, by_order}
 use Rattle.std.proofs.lemmas.Cmp.{nat_list_cmp_total, tied_itself}
+use Rattle.std.specs.List.{AllByRecursion}
+use Rattle.std.specs.List.Sorted.{IsStrictlySortedBy}
 use Rattle.gopass_base.specs.Text.{Text}
+use Rattle.gopass_base.specs.Order.{IsRising}
 use Rattle.gopass_base.proofs.OrderLemmas.{above, both, less}
 use Rattle.mount_table.specs.Mounts.{IsBelow}
 use Rattle.recipient_files.specs.Ids.{Ids}
-use Rattle.path_rules.specs.RuleMap.{Rise}
 
 abbrev pub order : Text → Text → Ordering
 order = slice_cmp nat_cmp
@@ -29,14 +31,30 @@ below_each f (g ∷ fs) (s ∷ ss) e h (suc k) lt = below_each f fs ss (omega (a
 first_below : (f : Text) (fs : List Text) (s : Ids) (ss : List Ids) → T (is_sorted order (zip (f ∷ fs) (s ∷ ss))) → T (below_all order f (zip fs ss)) × T (is_sorted order (zip fs ss))
 first_below f fs s ss up = both (below_all order f (zip fs ss)) (is_sorted order (zip fs ss)) up
 
-pub rise : (fs : List Text) (ss : List Ids) → length ss ≡ length fs → T (is_sorted order (zip fs ss)) → Rise fs
+-- each folder is below those after it, by their places
+abbrev pub Rises : List Text → Type 0
+Rises fs = (i k : ℕ) → i < k → k < length fs → IsBelow (get_or fs i []) (get_or fs k [])
+
+all_below : (f : Text) (fs : List Text) (ss : List Ids) → length ss ≡ length fs → T (below_all order f (zip fs ss)) → AllByRecursion (λ g. order f g ≡ Less) fs
+all_below f [] ss e h = tt
+all_below f (g ∷ fs) [] e h = absurd (omega (arith, e))
+all_below f (g ∷ fs) (s ∷ ss) e h = let at = both (is_lt (order f g)) (below_all order f (zip fs ss)) h in (less (order f g) at.0, all_below f fs ss (omega (arith, e)) at.1)
+
+-- the folders of entries in their order rise
+pub rising : (fs : List Text) (ss : List Ids) → length ss ≡ length fs → T (is_sorted order (zip fs ss)) → IsRising fs
+unfolding IsStrictlySortedBy
+rising [] ss e up = tt
+rising (f ∷ fs) [] e up = absurd (omega (arith, e))
+rising (f ∷ fs) (s ∷ ss) e up = let at = first_below f fs s ss up in (all_below f fs ss (omega (arith, e)) at.0, rising fs ss (omega (arith, e)) at.1)
+
+pub rise : (fs : List Text) (ss : List Ids) → length ss ≡ length fs → T (is_sorted order (zip fs ss)) → Rises fs
 rise [] ss e up i k low lt = absurd (omega arith)
 rise (f ∷ fs) [] e up i k low lt = absurd (omega (arith, e))
 rise (f ∷ fs) (s ∷ ss) e up i zero low lt = absurd (omega arith)
 rise (f ∷ fs) (s ∷ ss) e up zero (suc k) low lt = below_each f fs ss (omega (arith, e)) (first_below f fs s ss up).0 k (omega arith)
 rise (f ∷ fs) (s ∷ ss) e up (suc i) (suc k) low lt = rise fs ss (omega (arith, e)) (first_below f fs s ss up).1 i k (omega arith) (omega arith)
 
-pub found : (fs : List Text) (ss : List Ids) (q : Text) (k : ℕ) → length ss ≡ length fs → Rise fs → k < length fs → get_or fs k [] ≡ q → find order q (zip fs ss) ≡ Some (get_or ss k [])
+pub found : (fs : List Text) (ss : List Ids) (q : Text) (k : ℕ) → length ss ≡ length fs → Rises fs → k < length fs → get_or fs k [] ≡ q → find order q (zip fs ss) ≡ Some (get_or ss k [])
 found [] ss q k e up lt is = absurd (omega arith)
 found (f ∷ fs) [] q k e up lt is = absurd (omega (arith, e))
 found (f ∷ fs) (s ∷ ss) q zero e up lt is = ap (λ o. cond (is_eq o) (Some s) (find order q (zip fs ss))) (subst (λ (t : Text). order q t ≡ Equal) (sym is) (ties q))
@@ -49,7 +67,7 @@ missing [] ss q other = refl
 missing (f ∷ fs) [] q other = refl
 missing (f ∷ fs) (s ∷ ss) q other = ap (λ b. cond b (Some s) (find order q (zip fs ss))) (other 0 (omega arith)) ∙ missing fs ss q (λ k lt. other (suc k) (omega arith))
 
-pub put_found : (fs : List Text) (ss : List Ids) (q : Text) (v : Ids) (k : ℕ) → length ss ≡ length fs → Rise fs → k < length fs → get_or fs k [] ≡ q → zip fs (set ss k v) ≡ put order q v (zip fs ss)
+pub put_found : (fs : List Text) (ss : List Ids) (q : Text) (v : Ids) (k : ℕ) → length ss ≡ length fs → Rises fs → k < length fs → get_or fs k [] ≡ q → zip fs (set ss k v) ≡ put order q v (zip fs ss)
 put_found [] ss q v k e up lt is = absurd (omega arith)
 put_found (f ∷ fs) [] q v k e up lt is = absurd (omega (arith, e))
 put_found (f ∷ fs) (s ∷ ss) q v zero e up lt is = sym (ap (λ o. by_order o ((q, v) ∷ (f, s) ∷ zip fs ss) ((f, v) ∷ zip fs ss) ((f, s) ∷ put order q v (zip fs ss))) (subst (λ (t : Text). order q t ≡ Equal) (sym is) (ties q)))
@@ -77,7 +95,7 @@ keep_all q (f ∷ fs) (s ∷ ss) e low =
     ap (λ o. cond (not (is_eq o)) ((f, s) ∷ where_key order (other_than q) (zip fs ss)) (where_key order (other_than q) (zip fs ss))) (low 0 (omega arith))
     ∙ ap (λ es. (f, s) ∷ es) (keep_all q fs ss (omega (arith, e)) (λ k lt. low (suc k) (omega arith)))
 
-pub taken_out : (fs : List Text) (ss : List Ids) (q : Text) (k : ℕ) → length ss ≡ length fs → Rise fs → k < length fs → get_or fs k [] ≡ q → zip (remove fs k) (remove ss k) ≡ where_key order (other_than q) (zip fs ss)
+pub taken_out : (fs : List Text) (ss : List Ids) (q : Text) (k : ℕ) → length ss ≡ length fs → Rises fs → k < length fs → get_or fs k [] ≡ q → zip (remove fs k) (remove ss k) ≡ where_key order (other_than q) (zip fs ss)
 taken_out [] ss q k e up lt is = absurd (omega arith)
 taken_out (f ∷ fs) [] q k e up lt is = absurd (omega (arith, e))
 taken_out (f ∷ fs) (s ∷ ss) q zero e up lt is =

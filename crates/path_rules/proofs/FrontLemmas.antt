@@ -6,7 +6,8 @@ use Rattle.std.proofs.lemmas.List.{take_at, take-append-drop}
 use Rattle.std.proofs.lemmas.List.Elements.{All-cons, All-head, All-tail, All-take}
 use Rattle.std.proofs.lemmas.List.Splits.{join_with_byte-slice_split, slice_split_none, slice_split_at}
 use Rattle.gopass_base.specs.Text.{Text}
-use Rattle.mount_table.specs.Names.{parts, IsName, IsNamePart}
+use Rattle.gopass_base.specs.Parts.{parts}
+use Rattle.mount_table.specs.Names.{IsName, IsNamePart}
 use Rattle.mount_table.specs.NameFaults.{span, start_of}
 use Rattle.mount_table.specs.Prefixes.{folder_parts, Holds}
 use Rattle.mount_table.proofs.FolderLemmas.{joined}

@@ -4,7 +4,8 @@ use Rattle.std.specs.Option.{option_or}
 use Rattle.std.proofs.lemmas.Bool.{cases_lt}
 use Rattle.std.proofs.lemmas.Bool.Decides.{nat_tests}
 use Rattle.gopass_base.specs.Text.{Text}
-use Rattle.mount_table.specs.Names.{parts, IsName}
+use Rattle.gopass_base.specs.Parts.{parts}
+use Rattle.mount_table.specs.Names.{IsName}
 use Rattle.mount_table.specs.Prefixes.{folder_parts}
 use Rattle.mount_table.proofs.MountLemmas.{one_holder}
 use Rattle.recipient_files.specs.Ids.{Ids}

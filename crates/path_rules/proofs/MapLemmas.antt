@@ -1,12 +1,12 @@
 -- What the two lists of rules stand for as a map, where one changes.
-use Rattle.std.proofs.Common.{◌≡◌, inl, inr, ℕ, ◌+◌, ◌<◌, ◌≤◌, List, [], length, get_or, set, cond, Bool, true, false, not, T, Some, None, Result, Ok, Err, refl, ap, sym, ◌∙◌, subst, arith}
+use Rattle.std.proofs.Common.{◌≡◌, inl, inr, ℕ, ◌<◌, ◌≤◌, List, [], length, get_or, set, cond, Bool, true, false, not, T, Some, None, Result, Ok, Err, refl, ap, sym, ◌∙◌, subst, arith}
 use Rattle.std.specs.Prelude.{map as each}
 use Rattle.std.proofs.lemmas.Bool.{cases_lt}
-use Rattle.std.proofs.lemmas.List.{get_or_default, length-set}
+use Rattle.std.proofs.lemmas.List.{length-set}
 use Rattle.std.proofs.lemmas.List.Edits.{length-insert, length-remove}
 use Rattle.std.specs.List.{zip, insert, remove}
-use Rattle.std.specs.List.Sorted.{IsSortedBy, IsBinarySearchResult, IsSearchInRange}
-use Rattle.std.specs.Ordering.{is_lt, is_eq, eq_by_cmp, ordering_reverse}
+use Rattle.std.specs.List.Sorted.{IsBinarySearchResult, IsSearchInRange}
+use Rattle.std.specs.Ordering.{is_eq, eq_by_cmp, ordering_reverse}
 use Rattle.std.specs.Cmp.{eq_by_cmp_equiv}
 use Rattle.std.specs.FinMap as map
 use Rattle.std.specs.FinMap.{nat_cmp-IsAntisymmetric, slice_cmp-IsAntisymmetric}
@@ -15,23 +15,16 @@ use Rattle.std.proofs.lemmas.Cmp.{nat_list_cmp_total}
 use Rattle.std.proofs.lemmas.List.Sorted.{searchable_from_sorted}
 use Rattle.std.proofs.lemmas.Map.Lookups.{exact_bytes}
 use Rattle.gopass_base.specs.Text.{Text}
-use Rattle.mount_table.specs.Mounts.{IsBelow}
 use Rattle.recipient_files.specs.Ids.{Ids}
-use Rattle.path_rules.specs.RuleMap.{RuleMap, rule_at, HasRule, AreEntries, map_of, Rise, IsSpot}
+use Rattle.path_rules.specs.RuleMap.{RuleMap, rule_at, HasRule, AreEntries, map_of, IsSpot}
+use Rattle.gopass_base.specs.Order.{IsRising}
 use Rattle.path_rules.specs.Changes.{HasRoom}
 use Rattle.path_rules.specs.declared.entries.Spot.{Spot}
 use Rattle.path_rules.specs.declared.entries.Spot.TheVariants.{At, Before}
-use Rattle.gopass_base.proofs.OrderLemmas.{above}
-use Rattle.path_rules.proofs.EntryLemmas.{order, rise, found, missing, put_found, put_missing, other_than, taken_out, keys_zip, length_zip}
+use Rattle.gopass_base.proofs.OrderLemmas.{above, sorted}
+use Rattle.path_rules.proofs.EntryLemmas.{order, rise, rising, found, missing, put_found, put_missing, other_than, taken_out, keys_zip, length_zip}
 
 -- ---- where a folder stands
-
-sorted : (fs : List Text) → Rise fs → IsSortedBy (λ a b. is_lt (order a b)) fs
-sorted fs up k d low lt =
-    let here : get_or fs k [] ≡ get_or fs k d = get_or_default fs k [] d (omega arith) in
-    let next : get_or fs (k + 1) [] ≡ get_or fs (k + 1) d = get_or_default fs (k + 1) [] d lt in
-    ap is_lt (above (get_or fs k d) (get_or fs (k + 1) d)
-    (subst (λ (t : Text). IsBelow t (get_or fs (k + 1) d)) here (subst (λ (t : Text). IsBelow (get_or fs k []) t) next (up k (k + 1) (omega arith) lt))))
 
 pub spot_at : (fs : List Text) (q : Text) (r : Result ℕ ℕ) → IsSearchInRange r (length fs) → IsBinarySearchResult (λ (f : Text). order f q) fs r → (k : ℕ) → r ≡ Ok k → IsSpot fs q (At k)
 spot_at fs q (Ok i) bound searched k is =
@@ -39,7 +32,7 @@ spot_at fs q (Ok i) bound searched k is =
     subst (λ n. IsSpot fs q (At n)) same (bound, exact_bytes (get_or fs i []) q (searched []))
 spot_at fs q (Err i) bound searched k is = absurd (cc)
 
-pub spot_before : (fs : List Text) (q : Text) (r : Result ℕ ℕ) → Rise fs → IsSearchInRange r (length fs) → IsBinarySearchResult (λ (f : Text). order f q) fs r → (k : ℕ) → r ≡ Err k → IsSpot fs q (Before k)
+pub spot_before : (fs : List Text) (q : Text) (r : Result ℕ ℕ) → IsRising fs → IsSearchInRange r (length fs) → IsBinarySearchResult (λ (f : Text). order f q) fs r → (k : ℕ) → r ≡ Err k → IsSpot fs q (Before k)
 spot_before fs q (Ok i) up bound searched k is = absurd (cc)
 spot_before fs q (Err i) up bound searched k is =
     let same : i ≡ k = cc in
@@ -137,8 +130,8 @@ pub turned_spot : (fs gs : List Text) (q p : Text) (spot other : Spot) → gs �
 turned_spot fs gs q p spot other folders text is h =
     subst (λ (s : Spot). IsSpot fs q s) is (subst (λ (t : Text). IsSpot fs t spot) text (subst (λ (l : List Text). IsSpot l p spot) folders h))
 
-pub rise_of : (fs gs : List Text) (ss : List Ids) → gs ≡ fs → AreEntries fs ss → Rise gs
-rise_of fs gs ss same are = subst Rise (sym same) (rise fs ss are.as_many are.rising)
+pub rise_of : (fs gs : List Text) (ss : List Ids) → gs ≡ fs → AreEntries fs ss → IsRising gs
+rise_of fs gs ss same are = subst IsRising (sym same) (rising fs ss are.as_many are.rising)
 
 -- no room is left, and the folder has no rule
 pub is_full : (fs : List Text) (ss : List Ids) (q : Text) (rules : RuleMap) (k n : ℕ) → AreEntries fs ss → map_of fs ss ≡ rules → IsSpot fs q (Before k) → n ≡ length fs → 512 ≤ n → (rule_at rules q ≡ None) × (512 ≤ map.len rules)

@@ -2,7 +2,7 @@
 use Rattle.std.proofs.Common.{[], get_or, ◌≡◌, ℕ, suc, ◌+◌, ◌-◌, ◌<◌, ◌≤◌, List, length, take, Option, Some, refl, ap, sym, ◌∙◌, subst, arith}
 use Rattle.std.proofs.lemmas.List.{get_or_default}
 use Rattle.gopass_base.specs.Text.{Text}
-use Rattle.mount_table.specs.Names.{parts}
+use Rattle.gopass_base.specs.Parts.{parts}
 use Rattle.mount_table.specs.NameFaults.{start_of}
 use Rattle.recipient_files.specs.Ids.{Ids}
 use Rattle.path_rules.specs.RuleMap.{RuleMap, AreEntries, map_of, IsSpot}

@@ -35,10 +35,6 @@ pub record AreEntries (folders : List Text) (sets : List Ids) : Type 0 where
   pub few : length folders ≤ 512
   pub rising : T (is_sorted (slice_cmp nat_cmp) (zip folders sets))
 
--- each folder is below those behind it, by bytes
-abbrev pub Rise : List Text → Type 0
-Rise folders = (i k : ℕ) → i < k → k < length folders → IsBelow (slice_index_or folders i []) (slice_index_or folders k [])
-
 -- where a folder stands in such a list: at an index, or before the first that is above it
 abbrev pub IsSpot : List Text → Text → Spot → Type 0
 IsSpot folders folder (At index) = (index < length folders) × (slice_index_or folders index [] ≡ folder)

@@ -2,7 +2,8 @@
 
 ghost use Rattle.std.specs.Prelude.{◌≡◌, ◌<◌, ◌≤◌, ◌+◌, vec_len, vec_capacity, IfOk, OnOk};
 ghost use Rattle.std.specs.List.{insert};
-ghost use Rattle.path_rules.specs.RuleMap.{IsSpot, Rise};
+ghost use Rattle.gopass_base.specs.Order.{IsRising};
+ghost use Rattle.path_rules.specs.RuleMap.{IsSpot};
 
 use gopass_base::NoMemory;
 use mount_table::Folder;
@@ -20,7 +21,7 @@ pub(crate) enum Spot {
 
 /// Where the folder with this text stands.
 pub(crate) fn spot_of(folders: &[Folder], text: &[u8]) -> Spot
-    requires { Rise folders.now }
+    requires { IsRising folders.now }
     ensures { IsSpot folders.now text.now result }
 {
     match folders.binary_search_by(|folder| folder.text().as_bytes().cmp(text)) {
@@ -64,27 +65,4 @@ pub(crate) fn put_in(
     let Ok(()) = sets.insert(index, ids) else {
         unreachable!()
     };
-}
-
-pub(crate) fn copies_of_folders(alloc: Global, folders: &[Folder]) -> Result<Vec<Folder>, NoMemory>
-    ensures { IfOk result (λ copies. copies.items ≡ folders.now) }
-{
-    let mut copies = Vec::new(alloc);
-    for folder in folders {
-        copies.push(folder.copy(alloc)?)?;
-    }
-    Ok(copies)
-}
-
-pub(crate) fn copies_of_sets(
-    alloc: Global,
-    sets: &[Recipients],
-) -> Result<Vec<Recipients>, NoMemory>
-    ensures { IfOk result (λ copies. copies.items ≡ sets.now) }
-{
-    let mut copies = Vec::new(alloc);
-    for set in sets {
-        copies.push(set.copy()?)?;
-    }
-    Ok(copies)
 }

@@ -2,7 +2,8 @@
 
 ghost use Rattle.std.specs.Prelude.{◌≡◌, ◌<◌, ℕ, length, Option};
 ghost use Rattle.gopass_base.specs.Text.{Text};
-ghost use Rattle.mount_table.specs.Names.{parts, IsName};
+ghost use Rattle.gopass_base.specs.Parts.{parts};
+ghost use Rattle.mount_table.specs.Names.{IsName};
 ghost use Rattle.mount_table.specs.NameFaults.{start_of};
 ghost use Rattle.recipient_files.specs.Ids.{Ids};
 ghost use Rattle.path_rules.specs.RuleMap.{RuleMap, AreEntries, map_of};

@@ -2,16 +2,16 @@
 
 ghost use Rattle.std.specs.Prelude.{◌≡◌, ◌<◌, ℕ, length, None, Some, option_map, IfOk};
 ghost use Rattle.std.specs.FinMap as map;
-ghost use Rattle.mount_table.specs.Names.{parts};
+ghost use Rattle.gopass_base.specs.Parts.{parts};
 ghost use Rattle.mount_table.specs.NameFaults.{start_of};
 ghost use Rattle.path_rules.specs.RuleMap.{RuleMap, rule_at};
 ghost use Rattle.path_rules.specs.Changes.{SetsRule, UnsetsRule};
 ghost use Rattle.path_rules.specs.Governing.{Governs, governing_below, governing_ids, IsPartStart};
 ghost use Rattle.path_rules.specs.declared.rules.RulesFault.TheVariants.{NoMemory};
 
-use crate::entries::{Spot, copies_of_folders, copies_of_sets, make_room, put_in, spot_of};
+use crate::entries::{Spot, make_room, put_in, spot_of};
 use crate::governing::nearest;
-use gopass_base::NoMemory as NoRoom;
+use gopass_base::{NoMemory as NoRoom, copies};
 use mount_table::{Folder, Mounts, Name, Place};
 use recipient_files::Recipients;
 use std::alloc::Global;
@@ -130,8 +130,8 @@ impl Rules {
     {
         let alloc = *self.folders.allocator();
         Ok(Rules {
-            folders: copies_of_folders(alloc, &self.folders)?,
-            sets: copies_of_sets(alloc, &self.sets)?,
+            folders: copies(alloc, &self.folders)?,
+            sets: copies(alloc, &self.sets)?,
         })
     }
 

@@ -3,9 +3,9 @@ use Rattle.std.specs.Prelude.{Some, None}
 use Rattle.std.proofs.lemmas.Result.{err_from_is_err_and}
 use Rattle.cipher_port.specs.Tool.{Content, made_of}
 use Rattle.gopass_base.specs.Lines.{pieces_of}
-use Rattle.cipher_port.specs.Standin.{with_id, from_recipients, from_body}
+use Rattle.cipher_port.specs.Standin.{with_next, from_recipients, from_body}
 use Rattle.cipher_port.specs.StandinReads.{IsSoFar}
-use Rattle.cipher_port.specs.StandinLaws.{with_id_gives, none_so_far}
+use Rattle.cipher_port.specs.StandinLaws.{with_next_gives, none_so_far}
 use Rattle.cipher_port.specs.declared.standin.Sealed.{Sealed}
 use Rattle.gopass_base.proofs.LineLemmas.{cut_shorter}
 use Rattle.cipher_port.proofs.StandinLemmas.{passed_on, same_read, line_taken, line_refused, line_other, lines_done}
@@ -31,15 +31,15 @@ returns-in_default-strip_prefix c =
 pub returns-in_err-add_id : goal.returns-in_err-add_id
 returns-in_err-add_id c =
     let p = err_from_is_err_and c.from_residual.result c.from_residual.ensures.1 in
-    rw (p.1, p.2) (passed_on {X = Unit {0}} c.in_err-add_id.field-0.0 (λ _. c.add_id.new.ids.items) content (with_id c.loop-line.ids.items c.in-Some-strip_prefix.text.now) (from_recipients [] (pieces_of c.args.lines.now)) c.in_err-add_id.ensures
+    rw (p.1, p.2) (passed_on {X = Unit {0}} c.in_err-add_id.field-0.0 (λ _. c.add_id.new.ids.items) content (with_next c.loop-line.ids.items c.in-Some-strip_prefix.text.now) (from_recipients [] (pieces_of c.args.lines.now)) c.in_err-add_id.ensures
     (λ refused. line_refused c.loop-line.ids.items c.loop-line.rest.now c.in-Some.line.now c.in-Some.after.now (from_recipients [] (pieces_of c.args.lines.now)) c.loop-line.invariant.rest c.in-Some.ensures.computed c.in-Some-strip_prefix.ensures.cases.0
-    (subst (λ t. with_id c.loop-line.ids.items t ≡ None) c.in-Some-strip_prefix.ensures.cases.1 refused)))
+    (subst (λ t. with_next c.loop-line.ids.items t ≡ None) c.in-Some-strip_prefix.ensures.cases.1 refused)))
 
 pub loop-line-preserved : goal.loop-line-preserved
 loop-line-preserved c =
-    let taken : with_id c.loop-line.ids.items (drop 3 c.in-Some.line.now) ≡ Some c.add_id.new.ids.items = subst (λ t. with_id c.loop-line.ids.items t ≡ Some c.add_id.new.ids.items) c.in-Some-strip_prefix.ensures.cases.1 c.in_ok-add_id.ensures in
+    let taken : with_next c.loop-line.ids.items (drop 3 c.in-Some.line.now) ≡ Some c.add_id.new.ids.items = subst (λ t. with_next c.loop-line.ids.items t ≡ Some c.add_id.new.ids.items) c.in-Some-strip_prefix.ensures.cases.1 c.in_ok-add_id.ensures in
     record {
-      ids = (with_id_gives c.loop-line.ids.items (drop 3 c.in-Some.line.now) c.add_id.new.ids.items c.loop-line.invariant.ids taken).1;
+      ids = (with_next_gives c.loop-line.ids.items (drop 3 c.in-Some.line.now) c.add_id.new.ids.items c.loop-line.invariant.ids taken).1;
       rest = line_taken c.loop-line.ids.items c.add_id.new.ids.items c.loop-line.rest.now c.in-Some.line.now c.in-Some.after.now (from_recipients [] (pieces_of c.args.lines.now)) c.loop-line.invariant.rest c.in-Some.ensures.computed c.in-Some-strip_prefix.ensures.cases.0 taken;
     }
 

@@ -3,7 +3,7 @@ use Rattle.std.proofs.lemmas.Iterator.{YieldsList-from_slice, cases_from_all}
 use borrow.Author.Tests.{tests}
 use Rattle.gopass_base.specs.Text.{Text}
 use Rattle.mount_table.specs.Prefixes.{Holds}
-use Rattle.mount_table.proofs.EachPart.{each_is}
+use Rattle.gopass_base.proofs.EachPart.{each_is}
 use Rattle.listing_texts.proofs.tests.are_held.Goals as goal
 
 pub returns : goal.returns

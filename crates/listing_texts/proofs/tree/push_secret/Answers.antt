@@ -1,6 +1,7 @@
 use Rattle.std.proofs.Common.{◌≡◌, ◌++◌, ◌+◌, [], Bor, ap, sym, subst, arith, rules}
 use Rattle.gopass_base.specs.Text.{Text}
-use Rattle.mount_table.specs.Names.{parts, folders}
+use Rattle.gopass_base.specs.Parts.{parts}
+use Rattle.mount_table.specs.Names.{folders}
 use Rattle.listing_texts.specs.Tree.{secret_lines}
 use Rattle.listing_texts.proofs.TreeLemmas.{lines_at, lines_whole, shorter, goes_in, prints}
 use Rattle.listing_texts.proofs.tree.push_secret.Goals.{in-Some-behind_folder, in-None+in_ok-push_folder-in-None}

@@ -1,7 +1,8 @@
 use Rattle.std.proofs.Common.{◌≡◌, ◌++◌, ◌+◌, ◌≤◌, length}
 use denote.Shadow.{shadow}
 use denote.Text.{Utf8}
-use Rattle.mount_table.specs.Names.{parts, folders}
+use Rattle.gopass_base.specs.Parts.{parts}
+use Rattle.mount_table.specs.Names.{folders}
 use Rattle.listing_texts.specs.Tree.{secret_lines}
 use Rattle.listing_texts.proofs.TreeLemmas.{lines_at}
 use Rattle.listing_texts.proofs.tree.push_secret.Given as goal

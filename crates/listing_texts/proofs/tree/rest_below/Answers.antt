@@ -1,6 +1,6 @@
 use Rattle.std.proofs.Common.{◌≡◌, ap, sym, ◌∙◌, subst, drop, IsUtf8}
 use Rattle.gopass_base.specs.Text.{Text}
-use Rattle.mount_table.specs.Names.{parts}
+use Rattle.gopass_base.specs.Parts.{parts}
 use Rattle.mount_table.specs.Prefixes.{rest_start}
 use Rattle.mount_table.proofs.RestLemmas.{CanCut, can_cut}
 use Rattle.listing_texts.proofs.TreeLemmas.{rest_parts}

@@ -1,7 +1,8 @@
 use Rattle.std.proofs.Common.{◌≡◌, ◌++◌, drop}
 use denote.Shadow.{shadow}
 use denote.Text.{Utf8}
-use Rattle.mount_table.specs.Names.{parts, folders}
+use Rattle.gopass_base.specs.Parts.{parts}
+use Rattle.mount_table.specs.Names.{folders}
 use Rattle.listing_texts.specs.Tree.{tree_below, tree_of}
 use Rattle.listing_texts.proofs.tree.tree_of.Given as goal
 

@@ -2,10 +2,10 @@ use Rattle.std.proofs.Common.{◌≡◌, true, refl, ap, sym, ◌∙◌, ◌+◌
 use Rattle.std.proofs.lemmas.Iterator.Splits.{YieldsList-from_str_split}
 use Rattle.std.proofs.lemmas.Iterator.Consumers.{YieldsList-turn, YieldsList-end}
 use Rattle.std.proofs.lemmas.List.{length_push}
-use Rattle.mount_table.specs.Names.{parts}
+use Rattle.gopass_base.specs.Parts.{parts}
 use Rattle.mount_table.specs.NameFaults.{span, start_of}
 use Rattle.mount_table.proofs.PartLemmas.{parts_fill, turn_of}
-use Rattle.path_rules.proofs.EntryLemmas.{rise}
+use Rattle.path_rules.proofs.EntryLemmas.{rising}
 use Rattle.path_rules.proofs.NearestLemmas.{IsSoFar, turn_short, turn_none, turn_some, all_seen}
 use Rattle.path_rules.proofs.governing.nearest.Goals as goal
 use Rattle.path_rules.proofs.governing.nearest.Goals.{then-at-from+in-At, then-at-from+in_default, else-at-from}
@@ -14,7 +14,7 @@ pub loop-part-init : goal.loop-part-init
 loop-part-init c = record { begun = refl; placed = omega (arith, (parts_fill c.text-text.result.now).1); so_far = λ least lt is. refl }
 
 pub spot_of-requires : goal.spot_of-requires
-spot_of-requires c = rise c.args.folders.now c.args.sets.now c.requires.entries.as_many c.requires.entries.rising
+spot_of-requires c = rising c.args.folders.now c.args.sets.now c.requires.entries.as_many c.requires.entries.rising
 
 pub loop-part-preserved : goal.loop-part-preserved
 loop-part-preserved c =

@@ -1,5 +1,5 @@
 use Rattle.std.proofs.Common.{◌≡◌, ◌+◌, ◌<◌, ℕ, length, drop}
-use Rattle.mount_table.specs.Names.{parts}
+use Rattle.gopass_base.specs.Parts.{parts}
 use Rattle.mount_table.specs.NameFaults.{span, start_of}
 use Rattle.path_rules.specs.RuleMap.{map_of}
 use Rattle.path_rules.specs.Governing.{IsSetAt, longest_rule}

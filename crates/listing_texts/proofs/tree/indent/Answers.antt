@@ -2,7 +2,7 @@ use Rattle.std.proofs.Common.{◌++◌, ap, ◌∙◌, append_assoc}
 use Rattle.std.specs.Prelude.{codes}
 use Rattle.std.specs.List.{repeat}
 use Rattle.listing_texts.proofs.TreeLemmas.{repeat_next}
-use Rattle.listing_texts.proofs.tree.push_indented.Goals as goal
+use Rattle.listing_texts.proofs.tree.indent.Goals as goal
 
 pub loop-above-preserved : goal.loop-above-preserved
 loop-above-preserved c =
