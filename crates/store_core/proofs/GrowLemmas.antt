@@ -8,13 +8,12 @@ use Rattle.std.specs.Cmp.Lexicographic.{slice_cmp}
 use Rattle.std.proofs.Math.Logic.{∥∥₁_map}
 use Rattle.std.proofs.lemmas.Bool.{cases_Bool, true≢false}
 use Rattle.std.proofs.lemmas.List.{length-set}
-use Rattle.gopass_base.specs.Text.{Text}
+use Rattle.gopass_base.specs.Text.{Text, is_among}
 use Rattle.mount_table.specs.Names.{IsName}
 use Rattle.mount_table.specs.Mounts.{IsTable}
 use Rattle.mount_table.specs.MountOf.{mount_of}
 use Rattle.mount_table.specs.declared.mounts.Row.{Row}
 use Rattle.disk_model.specs.Files.{Files, put}
-use Rattle.recipient_files.specs.Ids.{is_among}
 use Rattle.recipient_files.proofs.SetLemmas.{is_among_tells}
 use Rattle.store_state.specs.declared.opening.Found.{Found}
 use Rattle.store_state.specs.Places.{secret_path}

@@ -1,14 +1,14 @@
 -- What the tests of `insert` say of the state, and what a store has once a secret is put.
-use Rattle.std.proofs.Common.{◌≡◌, ◌≢◌, ◌+◌, ◌<◌, ◌≤◌, Bool, true, false, not, ◌&&◌, if◌then◌else◌, List, [], ◌∷◌, drop, length, Option, None, Some, Result, Ok, Err, Global, refl, sym, ◌∙◌, ap, subst, arith, length-set}
+use Rattle.std.proofs.Common.{◌≡◌, ◌+◌, ◌<◌, ◌≤◌, Bool, true, false, not, ◌&&◌, if◌then◌else◌, List, [], ◌∷◌, drop, length, Option, None, Some, Result, Ok, Err, Global, refl, sym, ◌∙◌, ap, subst, arith, length-set}
 use Rattle.std.specs.Prelude.{is_some, option_map, slice_index_or}
 use Rattle.std.specs.FinMap as map
 use Rattle.std.proofs.Math.Logic.{∥∥₁_map}
 use Rattle.std.proofs.Math.Path.{fun_ext}
 use Rattle.std.proofs.lemmas.Bool.{false≢true}
-use Rattle.gopass_base.specs.Text.{Text}
-use Rattle.gopass_base.specs.Faults.{Rose}
+use Rattle.gopass_base.specs.Text.{Text, is_among}
+use Rattle.gopass_base.specs.Faults.{HasCause, Rose}
 use Rattle.mount_table.specs.Names.{IsName}
-use Rattle.mount_table.specs.Paths.{file_of}
+use Rattle.gopass_base.specs.Paths.{file_of}
 use Rattle.mount_table.specs.Prefixes.{rest_start}
 use Rattle.mount_table.specs.Mounts.{IsFileOf, IsTable, row_at}
 use Rattle.mount_table.specs.MountOf.{mount_of}
@@ -18,7 +18,6 @@ use Rattle.mount_table.specs.declared.mounts.Row.{Row}
 use Rattle.disk_model.specs.Files.{Files, put}
 use Rattle.disk_model.specs.declared.disk.Disk.{Ghosts}
 use Rattle.pending_journal.specs.Change.{changed, puts_in, put_at}
-use Rattle.pending_journal.specs.Redo.{is_among}
 use Rattle.pending_journal.specs.declared.change.Change.{Change}
 use Rattle.pending_journal.specs.declared.vault.CommitFault.{CommitFault}
 use Rattle.pending_journal.specs.declared.vault.CommitFault.TheVariants.{Disk as CommitDisk, Stuck as CommitStuck, NoMemory as CommitNoMemory}
@@ -38,7 +37,7 @@ use Rattle.store_state.specs.Places.{secret_path}
 use Rattle.store_state.specs.State.{State, Cell, AreSizes, StandsFor, cell_of}
 use Rattle.store_core.specs.Refusals.{refusal_said}
 use Rattle.store_core.specs.Insert.{plan_insert, has_secret, passed_by, with_cell, one_more}
-use Rattle.store_core.specs.Inserting.{refusal_by_commit, IsUnruled, limit_by, MayPut, IsTested, SealsBody, IsGrownFor, TakesOver}
+use Rattle.store_core.specs.Inserting.{IsRefusalByCommit, IsUnruled, limit_by, MayPut, IsTested, SealsBody, IsGrownFor, TakesOver}
 use Rattle.store_core.specs.Performs.{Performs}
 use Rattle.store_state.proofs.KeyLemmas.{length-keys}
 use Rattle.store_state.proofs.AgreeLemmas.{mounts_agree, keys_agree, rules_agree, sizes_agree, row_agrees, among_keys}
@@ -83,13 +82,14 @@ module _ (opens : Opens) (root : Text) (files : Files) (found : Found) (state : 
 -- ---- the exits before the commit
 
 module _ (opens : Opens) (root : Text) (ring : Ring) (name body : Text) (force : Bool) (state : State) (old new : Moment) (stands : StandsFor opens root old.view.files state) (still : Still root old new) where
-  pub insert_unruled : (ids : Option Ids) → governing_ids state.rules state.mounts name ≡ ids → (r : Refusal) → IsUnruled ids r → new.calls ≤ old.calls
+  pub insert_unruled : (ids : Option Ids) → governing_ids state.rules state.mounts name ≡ ids → (r : Refusal) → IsUnruled name ids r → new.calls ≤ old.calls
       → Performs opens root (plan_insert ring name body force state) state old new (refusal_said name r)
-  insert_unruled ids is NoRule none few = insert_no_rule opens root ring name body force state old new stands still (is ∙ none) few
+  insert_unruled ids is (NoRule other) (same, none) few = subst (λ n. Performs opens root (plan_insert ring name body force state) state old new (refusal_said name (NoRule n))) (sym same)
+      (insert_no_rule opens root ring name body force state old new stands still (is ∙ none) few)
   insert_unruled ids is NoMemory none few = insert_no_memory opens root ring name body force state old new stands still (omega (arith, few))
   insert_unruled ids is NotFound none few = absurd none
   insert_unruled ids is IsFolder none few = absurd none
-  insert_unruled ids is Exists none few = absurd none
+  insert_unruled ids is (Exists other) none few = absurd none
   insert_unruled ids is (Full limit) none few = absurd none
   insert_unruled ids is (UnknownId id) none few = absurd none
   insert_unruled ids is (NoKey other) none few = absurd none
@@ -98,12 +98,13 @@ module _ (opens : Opens) (root : Text) (ring : Ring) (name body : Text) (force :
   insert_unruled ids is Disk none few = absurd none
 
   module _ (ids : Ids) (ruled : governing_ids state.rules state.mounts name ≡ Some ids) where
-    pub insert_tested : (there : Bool) (limit : Option Limit) → (not force && has_secret state name) ≡ (not force && there) → passed_by state name body ≡ limit → (r : Refusal) → MayPut force there limit {T = Unit {0}} (Err r) → new.calls ≤ old.calls
+    pub insert_tested : (there : Bool) (limit : Option Limit) → (not force && has_secret state name) ≡ (not force && there) → passed_by state name body ≡ limit → (r : Refusal) → MayPut name force there limit {T = Unit {0}} (Err r) → new.calls ≤ old.calls
         → Performs opens root (plan_insert ring name body force state) state old new (refusal_said name r)
-    insert_tested there limit way passed Exists may few = insert_in_the_way opens root ring name body force state old new stands still ids ruled (way ∙ may) few
+    insert_tested there limit way passed (Exists other) may few = subst (λ n. Performs opens root (plan_insert ring name body force state) state old new (refusal_said name (Exists n))) (sym may.0)
+        (insert_in_the_way opens root ring name body force state old new stands still ids ruled (way ∙ may.1) few)
     insert_tested there limit way passed (Full kind) may few = insert_full opens root ring name body force state old new stands still ids ruled (way ∙ may.0) kind (passed ∙ may.1) few
-    insert_tested there limit way passed NoRule may few = absurd may
-    insert_tested there limit way passed NoMemory may few = absurd may
+    insert_tested there limit way passed (NoRule other) may few = absurd may
+    insert_tested there limit way passed NoMemory may few = insert_no_memory opens root ring name body force state old new stands still (omega (arith, few))
     insert_tested there limit way passed NotFound may few = absurd may
     insert_tested there limit way passed IsFolder may few = absurd may
     insert_tested there limit way passed (UnknownId id) may few = absurd may
@@ -119,8 +120,8 @@ module _ (opens : Opens) (root : Text) (ring : Ring) (name body : Text) (force :
       insert_unsealed (Tool other) same rose = subst (λ n. Performs opens root (plan_insert ring name body force state) state old new (refusal_said name (Tool n))) (sym same)
           (insert_failed opens root ring name body force state old new stands still ids ruled fresh room few (rose other refl))
       insert_unsealed NoMemory is rose = insert_no_memory_then opens root ring name body force state old new stands still ids ruled fresh room few
-      insert_unsealed NoRule is rose = absurd is
-      insert_unsealed Exists is rose = absurd is
+      insert_unsealed (NoRule other) is rose = absurd is
+      insert_unsealed (Exists other) is rose = absurd is
       insert_unsealed (Full limit) is rose = absurd is
       insert_unsealed NotFound is rose = absurd is
       insert_unsealed IsFolder is rose = absurd is
@@ -189,21 +190,21 @@ module _ (root : Text) (files after : Files) (found : Found) (name body bytes : 
       not_there {b = true} out = absurd (out refl)
       not_there {b = false} out = refl
 
+pub mounts_stay : (old : Found) (more : Option Grown) (new : Found) → TakesOver old more new → new.mounts ≡ old.mounts
+mounts_stay old None new is = ap (λ (f : Found). f.mounts) is
+mounts_stay old (Some grown) new is = is.mounts
+
 -- ---- a commit that failed
 
-pub commit_keeps : {D : Type 0} {G : Ghosts D} (old new : Store D G) (before after : Tools) (name : Text) (fault : CommitFault) (r : Refusal) → r ≡ refusal_by_commit fault → fault ≢ CommitStuck
-    → (moment_of old before).faults.disk ≤ (moment_of new after).faults.disk → (moment_of new after).faults.tools ≡ (moment_of old before).faults.tools
-    → (fault ≡ CommitDisk → Rose (moment_of old before).faults.disk (moment_of new after).faults.disk) → after.calls ≤ before.calls + 1 → new.vault.root ≡ old.vault.root
+pub commit_keeps : {D : Type 0} {G : Ghosts D} (old new : Store D G) (before after : Tools) (name : Text) (fault : CommitFault) (r : Refusal) → IsRefusalByCommit fault r
+    → HasCause (moment_of old before).faults.disk (moment_of new after).faults.disk (fault ≡ CommitDisk) → (moment_of new after).faults.tools ≡ (moment_of old before).faults.tools
+    → after.calls ≤ before.calls + 1 → new.vault.root ≡ old.vault.root
     → ((ring : Ring) → before.have ring → after.have ring) → Keeps 1 old new before after (refusal_said name r).status
-commit_keeps old new before after name CommitStuck r is other disk tools rose calls root rings = absurd (other refl)
-commit_keeps old new before after name CommitDisk r is other disk tools rose calls root rings = subst (λ x. Keeps 1 old new before after (refusal_said name x).status) (sym is) (record {
+commit_keeps old new before after name CommitStuck r is disk tools calls root rings = absurd is
+commit_keeps old new before after name CommitDisk r is disk tools calls root rings = subst (λ x. Keeps 1 old new before after (refusal_said name x).status) (sym is) (record {
   causes = record {
-    disk_later = disk;
-    tools_later = omega (arith, tools);
-    tool = λ e. absurd (omega (arith, e));
-    disk = λ e. rose refl;
-    tools_stay = λ no_tool memory. tools;
-    disk_stays = λ no_disk memory. absurd (no_disk refl);
+    tools = record { later = omega (arith, tools); failed = λ e. absurd (omega (arith, e)); stays = λ other. tools };
+    disk = record { later = disk.later; failed = λ e. disk.failed refl; stays = λ other. absurd (other refl); once = disk.once };
     no_sink = λ e. omega (arith, e);
   };
   calls = calls;
@@ -212,14 +213,10 @@ commit_keeps old new before after name CommitDisk r is other disk tools rose cal
   root = root;
   rings = rings;
 })
-commit_keeps old new before after name CommitNoMemory r is other disk tools rose calls root rings = subst (λ x. Keeps 1 old new before after (refusal_said name x).status) (sym is) (record {
+commit_keeps old new before after name CommitNoMemory r is disk tools calls root rings = subst (λ x. Keeps 1 old new before after (refusal_said name x).status) (sym is) (record {
   causes = record {
-    disk_later = disk;
-    tools_later = omega (arith, tools);
-    tool = λ e. absurd (omega (arith, e));
-    disk = λ e. absurd (omega (arith, e));
-    tools_stay = λ no_tool memory. tools;
-    disk_stays = λ no_disk memory. absurd (memory refl);
+    tools = record { later = omega (arith, tools); failed = λ e. absurd (omega (arith, e)); stays = λ other. tools };
+    disk = record { later = disk.later; failed = λ e. absurd (omega (arith, e)); stays = λ other. disk.stays (λ e. cc); once = disk.once };
     no_sink = λ e. omega (arith, e);
   };
   calls = calls;

@@ -1,6 +1,6 @@
 -- What `insert` does to the files, and the ways through it.
 use Rattle.std.proofs.Common.{◌≡◌, ◌≢◌, ◌⊎◌, inl, inr, ⊎_elim, ℕ, ◌+◌, ◌<◌, ◌≤◌, Bool, true, false, not, ◌&&◌, cond, List, [], ◌∷◌, ◌++◌, length, take, slice_index_or, Option, Some, None, refl, ap, sym, ◌∙◌, subst, arith}
-use Rattle.std.specs.Prelude.{Result, Err, ◌↔◌, Contains, IsTrue, IsFalse, codes, is_some, option_map}
+use Rattle.std.specs.Prelude.{◌↔◌, Contains, IsTrue, IsFalse, codes, is_some, option_map}
 use Rattle.std.specs.FinMap as map
 use Rattle.std.specs.Ordering.{nat_cmp, eq_by_cmp}
 use Rattle.std.specs.Cmp.Lexicographic.{slice_cmp}
@@ -13,7 +13,7 @@ use Rattle.gopass_base.specs.Text.{Text}
 use Rattle.gopass_base.specs.Order.{TextMap}
 use Rattle.gopass_base.specs.Faults.{Rose, counted}
 use Rattle.mount_table.specs.Names.{IsName}
-use Rattle.mount_table.specs.Paths.{path_in}
+use Rattle.gopass_base.specs.Paths.{path_in}
 use Rattle.mount_table.specs.Mounts.{row_at, IsTable}
 use Rattle.mount_table.specs.MountOf.{mount_of}
 use Rattle.mount_table.specs.declared.mounts.Row.{Row}
@@ -21,8 +21,6 @@ use Rattle.mount_table.proofs.MountOfLemmas.{mount_computed}
 use Rattle.disk_model.specs.Files.{Files, put}
 use Rattle.disk_model.specs.Disk.{IsDurable}
 use Rattle.disk_model.specs.Runs.{Leaves}
-use Rattle.disk_model.specs.declared.disk.DiskFault.{DiskFault}
-use Rattle.disk_model.specs.declared.disk.DiskFault.TheVariants.{Failed as DiskFailed, NoMemory as DiskNoMemory}
 use Rattle.disk_model.proofs.FileLemmas.{cases_path, put_here, put_apart}
 use Rattle.disk_model.proofs.RunLemmas.{leaves_then, leaves_weaken}
 use Rattle.pending_journal.specs.Service.{is_service}
@@ -35,7 +33,7 @@ use Rattle.path_rules.specs.RuleMap.{rule_at}
 use Rattle.path_rules.specs.Governing.{governing_ids}
 use Rattle.store_state.specs.declared.fault.Limit.{Limit}
 use Rattle.store_core.specs.declared.refusal.Refusal.{Refusal}
-use Rattle.store_core.specs.declared.refusal.Refusal.TheVariants.{Exists, NoRule, Full, UnknownId, Tool, Disk, NoMemory}
+use Rattle.store_core.specs.declared.refusal.Refusal.TheVariants.{Exists, NoRule, Full, UnknownId, Tool, NoMemory}
 use Rattle.store_state.specs.Places.{IsSecretAt, rest_of, rule_file, rule_path, secret_path, template_file, template_path}
 use Rattle.store_state.specs.RuleFiles.{IsRuleOf}
 use Rattle.store_state.specs.State.{Sealed, State, AreMounts, AreSizes, IsPlaced, StandsFor, cell_of, cell_with, is_outside, mounts_path, pending_path}
@@ -45,7 +43,8 @@ use Rattle.store_core.specs.Events.{Events, calm, refusing, Cause, TheDisk, Memo
 use Rattle.store_core.specs.Moment.{Moment}
 use Rattle.store_core.specs.Elsewhere.{IsSameElsewhere}
 use Rattle.store_core.specs.Performs.{IsTied, Goes, LeftFor, IsPassed, Performs, stop_said}
-use Rattle.store_core.specs.Refusals.{refusal_said, refusal_by_disk}
+use Rattle.store_core.specs.Refusals.{refusal_said}
+use Rattle.store_core.specs.Inserting.{IsRefusalByCommit}
 use Rattle.store_core.specs.Insert.{has_secret, with_cell, passed_by, insert_sealed, insert_within, insert_ruled, plan_insert}
 use Rattle.store_state.proofs.OneKind.{one_secret}
 use Rattle.store_state.proofs.PathLemmas.{secret_at_path}
@@ -254,10 +253,6 @@ module _ (opens : Opens) (root : Text) (start next : State) (plan : Events → P
 pub rose_since : (old mid new : ℕ) → old ≤ mid → Rose mid new → Rose old new
 rose_since old mid new later rose = omega (arith, later, rose)
 
--- a vault that was not stuck does not answer that it is
-pub never_stuck : (outcome : Result (Unit {0}) CommitFault) (fault : CommitFault) (stuck : Bool) → outcome ≡ Err fault → outcome ≡ Err Stuck ↔ IsTrue stuck → IsFalse stuck → fault ≢ Stuck
-never_stuck outcome fault stuck is was free e = false≢true (sym free ∙ was.0 (is ∙ ap Err e))
-
 -- ---- what is planned
 
 -- a name is there where it is among the keys
@@ -298,28 +293,19 @@ module _ (ring : Ring) (name body : Text) (force : Bool) (state : State) where
 
 module _ (opens : Opens) (root : Text) (ring : Ring) (name body : Text) (force : Bool) (state : State) (old new : Moment) (stands : StandsFor opens root old.view.files state) (still : Still root old new) where
   -- no rule governs the name
-  pub insert_no_rule : governing_ids state.rules state.mounts name ≡ None → new.calls ≤ old.calls → Performs opens root (plan_insert ring name body force state) state old new (refusal_said name NoRule)
-  insert_no_rule none few = quiet opens root state (plan_insert ring name body force state) old new stands still calm (refusal_said name NoRule) 0 (calm_tied old.faults new.faults still.tools_later) (omega (arith, few))
+  pub insert_no_rule : governing_ids state.rules state.mounts name ≡ None → new.calls ≤ old.calls → Performs opens root (plan_insert ring name body force state) state old new (refusal_said name (NoRule name))
+  insert_no_rule none few = quiet opens root state (plan_insert ring name body force state) old new stands still calm (refusal_said name (NoRule name)) 0 (calm_tied old.faults new.faults still.tools_later) (omega (arith, few))
       (plan_ruled ring name body force state calm None none)
 
   -- there was no memory
   pub insert_no_memory : new.calls ≤ old.calls + (plan_insert ring name body force state calm).calls → Performs opens root (plan_insert ring name body force state) state old new (refusal_said name NoMemory)
   insert_no_memory few = quiet_stop opens root state (plan_insert ring name body force state) old new stands still Memory (λ e. absurd (cc)) few
 
-  -- the disk failed, or wanted memory
-  pub insert_fault : (fault : DiskFault) → (fault ≡ DiskFailed → Rose old.faults.disk new.faults.disk) → new.calls ≤ old.calls + (plan_insert ring name body force state calm).calls
-      → Performs opens root (plan_insert ring name body force state) state old new (refusal_said name (refusal_by_disk fault))
-  insert_fault DiskFailed rose few = quiet_stop opens root state (plan_insert ring name body force state) old new stands still TheDisk (λ e. rose refl) few
-  insert_fault DiskNoMemory rose few = insert_no_memory few
-
   module _ (ids : Ids) (ruled : governing_ids state.rules state.mounts name ≡ Some ids) where
     -- the secret stands in the way
-    pub insert_in_the_way : (not force && has_secret state name) ≡ true → new.calls ≤ old.calls → Performs opens root (plan_insert ring name body force state) state old new (refusal_said name Exists)
-    insert_in_the_way way few = quiet opens root state (plan_insert ring name body force state) old new stands still calm (refusal_said name Exists) 0 (calm_tied old.faults new.faults still.tools_later) (omega (arith, few))
+    pub insert_in_the_way : (not force && has_secret state name) ≡ true → new.calls ≤ old.calls → Performs opens root (plan_insert ring name body force state) state old new (refusal_said name (Exists name))
+    insert_in_the_way way few = quiet opens root state (plan_insert ring name body force state) old new stands still calm (refusal_said name (Exists name)) 0 (calm_tied old.faults new.faults still.tools_later) (omega (arith, few))
         (plan_by_way ring name body force state ids ruled calm true way)
-
-    pub insert_exists : force ≡ false → has_secret state name ≡ true → new.calls ≤ old.calls → Performs opens root (plan_insert ring name body force state) state old new (refusal_said name Exists)
-    insert_exists off there few = insert_in_the_way (λ i. not (off i) && there i) few
 
     module _ (fresh : (not force && has_secret state name) ≡ false) where
       -- a limit would be passed
@@ -372,10 +358,10 @@ module _ (opens : Opens) (root : Text) (ring : Ring) (name body : Text) (force :
       later tie few (plan_sealed ring name body force state ids ruled None fresh room known) count stuck
 
   -- the same by the vault's fault: as a disk's failure, or as want of memory
-  pub insert_broken : (fault : CommitFault) (r : Refusal) → fault ≢ Stuck → (fault ≡ CommitDisk → r ≡ Disk) → (fault ≡ CommitNoMemory → r ≡ NoMemory) → (fault ≡ CommitDisk → Rose old.faults.disk new.faults.disk)
+  pub insert_broken : (fault : CommitFault) (r : Refusal) → IsRefusalByCommit fault r → (fault ≡ CommitDisk → Rose old.faults.disk new.faults.disk)
       → new.commits ≡ mid.commits → new.stuck ≡ true → old.faults.tools ≤ new.faults.tools → new.calls ≤ old.calls + 1 → Performs opens root (plan_insert ring name body force state) state old new (refusal_said name r)
-  insert_broken CommitDisk r free by_disk by_memory tie count stuck later few = subst (λ (x : Refusal). Performs opens root (plan_insert ring name body force state) state old new (refusal_said name x)) (sym (by_disk refl))
+  insert_broken CommitDisk r is tie count stuck later few = subst (λ (x : Refusal). Performs opens root (plan_insert ring name body force state) state old new (refusal_said name x)) (sym is)
       (insert_stopped TheDisk count stuck later (λ e. tie refl) few)
-  insert_broken Stuck r free by_disk by_memory tie count stuck later few = absurd (free refl)
-  insert_broken CommitNoMemory r free by_disk by_memory tie count stuck later few = subst (λ (x : Refusal). Performs opens root (plan_insert ring name body force state) state old new (refusal_said name x)) (sym (by_memory refl))
+  insert_broken Stuck r is tie count stuck later few = absurd is
+  insert_broken CommitNoMemory r is tie count stuck later few = subst (λ (x : Refusal). Performs opens root (plan_insert ring name body force state) state old new (refusal_said name x)) (sym is)
       (insert_stopped Memory count stuck later (λ e. absurd (cc)) few)

@@ -8,3 +8,5 @@ pub mod InsertLemmas
 pub mod InsertFacts
 pub mod KeptLemmas
 pub mod ElsewhereLemmas
+pub mod PutOfLemmas
+pub mod KeepsLemmas

@@ -7,7 +7,7 @@ use Rattle.std.proofs.lemmas.List.{append_assoc, append_cancel_left, append_canc
 use Rattle.std.proofs.lemmas.Slice.Eq.{bytes_eq-Decides}
 use Rattle.gopass_base.specs.Text.{Text}
 use Rattle.mount_table.specs.Names.{IsName}
-use Rattle.mount_table.specs.Paths.{path_in}
+use Rattle.gopass_base.specs.Paths.{path_in}
 use Rattle.mount_table.specs.Mounts.{row_at, IsTable, IsMountOf}
 use Rattle.mount_table.specs.MountOf.{mount_of}
 use Rattle.mount_table.specs.declared.mounts.Row.{Row}

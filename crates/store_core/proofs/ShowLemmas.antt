@@ -6,7 +6,7 @@ use Rattle.std.proofs.lemmas.Slice.Eq.{bytes_eq-Decides}
 use Rattle.gopass_base.specs.Text.{Text}
 use Rattle.gopass_base.specs.Faults.{Rose}
 use Rattle.mount_table.specs.Names.{IsName}
-use Rattle.mount_table.specs.Paths.{file_of}
+use Rattle.gopass_base.specs.Paths.{file_of}
 use Rattle.mount_table.specs.Prefixes.{rest_start}
 use Rattle.mount_table.specs.Mounts.{IsFileOf, IsTable, row_at, root_of}
 use Rattle.mount_table.specs.MountOf.{mount_of}
@@ -14,11 +14,10 @@ use Rattle.mount_table.proofs.MountLemmas.{one_row}
 use Rattle.mount_table.proofs.MountOfLemmas.{mount_computed}
 use Rattle.mount_table.specs.declared.mounts.Row.{Row}
 use Rattle.disk_model.specs.Files.{Files}
-use Rattle.disk_model.specs.declared.disk.DiskFault.{DiskFault}
-use Rattle.disk_model.specs.declared.disk.DiskFault.TheVariants.{Failed as DiskFailed, NoMemory as DiskNoMemory}
 use Rattle.pending_journal.specs.Service.{without_service}
 use Rattle.cipher_port.specs.Tool.{Content, Opens, Ring}
-use Rattle.cipher_port.specs.declared.cipher.UnsealFault.TheVariants as tool
+use Rattle.store_core.specs.declared.read_fault.ReadFault.{ReadFault}
+use Rattle.store_core.specs.declared.read_fault.ReadFault.TheVariants.{Disk as ReadDisk, NoMemory as ReadNoMemory}
 use Rattle.store_core.specs.declared.refusal.Refusal.{Refusal}
 use Rattle.store_core.specs.declared.refusal.Refusal.TheVariants.{NotFound, IsFolder, Exists, NoRule, Full, UnknownId, NoKey, NotSealed, Tool, Disk, NoMemory}
 use Rattle.store_state.specs.declared.opening.Found.{Found}
@@ -30,9 +29,9 @@ use Rattle.store_core.specs.Texts.{is_a_folder, not_in_the_store, no_key, not_se
 use Rattle.store_core.specs.Events.{Events, calm, refusing, TheDisk, Memory}
 use Rattle.store_core.specs.Moment.{Moment}
 use Rattle.store_core.specs.Performs.{Performs}
-use Rattle.store_core.specs.Refusals.{refusal_said, refusal_by_disk, said_by}
+use Rattle.store_core.specs.Refusals.{refusal_said, refusal_by_read, said_by}
 use Rattle.store_core.specs.Show.{plan_show, names_of, missing, shown, show_row, holds_one}
-use Rattle.store_core.specs.Unsealing.{IsRefusalBy, Shows, why_missing}
+use Rattle.store_core.specs.Unsealing.{IsNotSealed, Shows, why_missing}
 use Rattle.store_state.proofs.NameLemmas.{no_service}
 use Rattle.store_state.proofs.AgreeLemmas.{mounts_agree, table_agrees, row_named}
 use Rattle.store_state.proofs.KeyLemmas.{row_missing, row_there}
@@ -47,7 +46,7 @@ some_of f None x e = absurd (cc)
 some_of f (Some bytes) x e = (bytes, refl)
 
 -- a file that is too long is not sealed
-pub not_sealed_shows : (name : Text) (ring : Ring) (r : Refusal) → IsRefusalBy name tool.NotSealed r → (content : Option Content) → content ≡ None → Shows {A = Global} name content ring (Err r)
+pub not_sealed_shows : (name : Text) (ring : Ring) (r : Refusal) → IsNotSealed name r → (content : Option Content) → content ≡ None → Shows {A = Global} name content ring (Err r)
 not_sealed_shows name ring (NotSealed other) same content is = (same, is)
 not_sealed_shows name ring NoMemory same content is = tt
 not_sealed_shows name ring (NoKey other) same content is = absurd same
@@ -55,13 +54,13 @@ not_sealed_shows name ring (Tool other) same content is = absurd same
 not_sealed_shows name ring NotFound same content is = absurd same
 not_sealed_shows name ring IsFolder same content is = absurd same
 not_sealed_shows name ring Disk same content is = absurd same
-not_sealed_shows name ring Exists same content is = absurd same
-not_sealed_shows name ring NoRule same content is = absurd same
+not_sealed_shows name ring (Exists other) same content is = absurd same
+not_sealed_shows name ring (NoRule other) same content is = absurd same
 not_sealed_shows name ring (Full limit) same content is = absurd same
 not_sealed_shows name ring (UnknownId id) same content is = absurd same
 
 -- and no fault of the tool
-pub not_sealed_no_tool : (name : Text) (r : Refusal) → IsRefusalBy name tool.NotSealed r → (other : Text) → ◌≡◌ {A = Result (Vec ℕ Global) Refusal} (Err r) (Err (Tool other)) → ⊥
+pub not_sealed_no_tool : (name : Text) (r : Refusal) → IsNotSealed name r → (other : Text) → ◌≡◌ {A = Result (Vec ℕ Global) Refusal} (Err r) (Err (Tool other)) → ⊥
 not_sealed_no_tool name (NotSealed n) same other e = cc
 not_sealed_no_tool name NoMemory same other e = cc
 not_sealed_no_tool name (NoKey n) same other e = same
@@ -69,8 +68,8 @@ not_sealed_no_tool name (Tool n) same other e = same
 not_sealed_no_tool name NotFound same other e = same
 not_sealed_no_tool name IsFolder same other e = same
 not_sealed_no_tool name Disk same other e = same
-not_sealed_no_tool name Exists same other e = same
-not_sealed_no_tool name NoRule same other e = same
+not_sealed_no_tool name (Exists n) same other e = same
+not_sealed_no_tool name (NoRule n) same other e = same
 not_sealed_no_tool name (Full limit) same other e = same
 not_sealed_no_tool name (UnknownId id) same other e = same
 
@@ -102,9 +101,9 @@ module _ (opens : Opens) (root : Text) (ring : Ring) (name : Text) (state : Stat
   show_no_memory few = quiet_stop opens root state (plan_show ring name state) old new stands still Memory (λ e. absurd (cc)) few
 
   -- the disk failed, or wanted memory
-  pub show_fault : (fault : DiskFault) → (fault ≡ DiskFailed → Rose old.faults.disk new.faults.disk) → new.calls ≤ old.calls → Performs opens root (plan_show ring name state) state old new (refusal_said name (refusal_by_disk fault))
-  show_fault DiskFailed rose few = quiet_stop opens root state (plan_show ring name state) old new stands still TheDisk (λ e. rose refl) (omega (arith, few))
-  show_fault DiskNoMemory rose few = show_no_memory (omega (arith, few))
+  pub show_fault : (fault : ReadFault) → (fault ≡ ReadDisk → Rose old.faults.disk new.faults.disk) → new.calls ≤ old.calls → Performs opens root (plan_show ring name state) state old new (refusal_said name (refusal_by_read fault))
+  show_fault ReadDisk rose few = quiet_stop opens root state (plan_show ring name state) old new stands still TheDisk (λ e. rose refl) (omega (arith, few))
+  show_fault ReadNoMemory rose few = show_no_memory (omega (arith, few))
 
   -- what is the name of a secret is a name
   pub named : Contains (names_of state) name → IsName name
@@ -141,7 +140,7 @@ module _ (opens : Opens) (root : Text) (ring : Ring) (name : Text) (state : Stat
       show_given (Err NotFound) is rose few = absurd is
       show_given (Err IsFolder) is rose few = absurd is
       show_given (Err Disk) is rose few = absurd is
-      show_given (Err Exists) is rose few = absurd is
-      show_given (Err NoRule) is rose few = absurd is
+      show_given (Err (Exists other)) is rose few = absurd is
+      show_given (Err (NoRule other)) is rose few = absurd is
       show_given (Err (Full limit)) is rose few = absurd is
       show_given (Err (UnknownId id)) is rose few = absurd is

@@ -1,6 +1,6 @@
 -- What the function of a command ensures.
 use Rattle.std.specs.Prelude.{◌≡◌, ◌≢◌, ℕ, ◌+◌, ◌≤◌, IsFalse}
-use Rattle.gopass_base.specs.Faults.{Rose}
+use Rattle.gopass_base.specs.Faults.{HasCause, Rose}
 use Rattle.disk_model.specs.declared.disk.Disk.{Ghosts}
 use Rattle.cipher_port.specs.Tool.{Ring}
 use Rattle.store_core.specs.declared.store.Store.{Store}
@@ -17,15 +17,17 @@ Does {G = G} plan old new before after said =
     → StandsFor before.opens old.vault.root (G.meaning.view old.vault.disk).files start
     → Performs before.opens old.vault.root (plan ring start) start (moment_of old before) (moment_of new after) said
 
--- no count falls, and a fault is answered only where its count rose; that of a sink is not, since no sink is asked. Where the
--- status is neither that of the fault nor want of memory the count stays, so no fault is passed over
+-- of calls that may each fail: a fault is told only where the count rose, and where none is told it stays
+pub record AreCaused (before now : ℕ) (Told : Type 0) : Type 0 where
+  pub later : before ≤ now
+  pub failed : Told → Rose before now
+  pub stays : ¬ Told → now ≡ before
+
+-- a fault of the tools or of the disk is answered exactly where its count rose: no fault is passed over, and none is told as want
+-- of memory. That of a sink is not answered, since no sink is asked
 pub record HasCauses (old new : Faults) (status : ℕ) : Type 0 where
-  pub disk_later : old.disk ≤ new.disk
-  pub tools_later : old.tools ≤ new.tools
-  pub tool : status ≡ 11 → Rose old.tools new.tools
-  pub disk : status ≡ 12 → Rose old.disk new.disk
-  pub tools_stay : status ≢ 11 → status ≢ 14 → new.tools ≡ old.tools
-  pub disk_stays : status ≢ 12 → status ≢ 14 → new.disk ≡ old.disk
+  pub tools : AreCaused old.tools new.tools (status ≡ 11)
+  pub disk : HasCause old.disk new.disk (status ≡ 12)
   pub no_sink : status ≢ 16
 
 -- told or not: the causes of the status, at most so many calls of tools, and what no command changes

@@ -21,17 +21,17 @@ use Rattle.store_core.specs.declared.refusal.Refusal.TheVariants.{NoRule, Exists
 use Rattle.store_core.specs.Insert.{one_more}
 use Rattle.gopass_base.specs.Order.{IsRising}
 
--- what a fault of a commit makes a command answer
-abbrev pub refusal_by_commit : CommitFault → Refusal
-refusal_by_commit CommitDisk = Disk
-refusal_by_commit CommitStuck = Disk
-refusal_by_commit CommitNoMemory = NoMemory
+-- what a fault of a commit makes a command answer, on a store that was not stuck
+abbrev pub IsRefusalByCommit : CommitFault → Refusal → Type 0
+IsRefusalByCommit CommitDisk refusal = refusal ≡ Disk
+IsRefusalByCommit CommitStuck refusal = ⊥
+IsRefusalByCommit CommitNoMemory refusal = refusal ≡ NoMemory
 
--- no rule governs, or there was no memory
-abbrev pub IsUnruled : Option Ids → Refusal → Type 0
-IsUnruled ids NoRule = ids ≡ None
-IsUnruled ids NoMemory = Unit {0}
-IsUnruled ids _ = ⊥
+-- no rule governs the name, or there was no memory
+abbrev pub IsUnruled : Text → Option Ids → Refusal → Type 0
+IsUnruled name ids (NoRule other) = (other ≡ name) × (ids ≡ None)
+IsUnruled name ids NoMemory = Unit {0}
+IsUnruled name ids _ = ⊥
 
 -- the limit that is passed by a body, where the name is there or not, among so many secrets and files
 abbrev pub limit_by : Text → Bool → (secrets files : ℕ) → Option Limit
@@ -42,12 +42,13 @@ limit_by body there secrets files =
     else if nat_le 40000 files then Some Files
     else None
 
--- a secret may be put, or why not
-abbrev pub MayPut : (force there : Bool) → Option Limit → {T : Type 0} → Result T Refusal → Type 0
-MayPut force there limit (Ok done) = (not force && there ≡ false) × (limit ≡ None)
-MayPut force there limit (Err Exists) = not force && there ≡ true
-MayPut force there limit (Err (Full kind)) = (not force && there ≡ false) × (limit ≡ Some kind)
-MayPut force there limit (Err _) = ⊥
+-- a secret may be put, or why not; there may be no memory for the name of one that is in the way
+abbrev pub MayPut : (name : Text) → (force there : Bool) → Option Limit → {T : Type 0} → Result T Refusal → Type 0
+MayPut name force there limit (Ok done) = (not force && there ≡ false) × (limit ≡ None)
+MayPut name force there limit (Err (Exists other)) = (other ≡ name) × (not force && there ≡ true)
+MayPut name force there limit (Err NoMemory) = not force && there ≡ true
+MayPut name force there limit (Err (Full kind)) = (not force && there ≡ false) × (limit ≡ Some kind)
+MayPut name force there limit (Err _) = ⊥
 
 -- by what was found: whether the name is there, and how many files lie below the directory of its mount
 pub record IsTested {T : Type 0} (found : Found) (name body : Text) (force : Bool) (result : Result T Refusal) : Type 0 where
@@ -55,7 +56,7 @@ pub record IsTested {T : Type 0} (found : Found) (name body : Text) (force : Boo
   pub among : IsRising found.seen.names.items → IsTrue there ↔ Contains found.seen.names.items name
   pub row : ℕ
   pub mount : IsMountOf found.mounts name row
-  pub may : MayPut force there (limit_by body there (length found.seen.names.items) (slice_index_or found.counts.items row 0)) result
+  pub may : MayPut name force there (limit_by body there (length found.seen.names.items) (slice_index_or found.counts.items row 0)) result
 
 -- the body is sealed for these ids, or why not
 abbrev pub SealsBody : {A : Type 0} → Opens → Ring → Ids → (name body : Text) → Result (Vec ℕ A) Refusal → Type 0

@@ -4,7 +4,7 @@ ghost use Rattle.std.specs.Prelude.{◌≡◌, ◌<◌, ◌≤◌, length, inser
 ghost use Rattle.store_core.specs.Insert.{one_more};
 ghost use Rattle.store_core.specs.Inserting.{IsGrownFor, TakesOver};
 
-use gopass_base::NoMemory;
+use gopass_base::{NoMemory, copies};
 use mount_table::Name;
 use std::alloc::Global;
 use store_state::Found;
@@ -16,23 +16,12 @@ pub(crate) struct Grown {
     pub(crate) counts: Vec<usize>,
 }
 
-/// The names once more.
-fn copies_of(alloc: Global, names: &[Name]) -> Result<Vec<Name>, NoMemory>
-    ensures { IfOk result (λ copies. copies.items ≡ names.now) }
-{
-    let mut copies = Vec::new(alloc);
-    for name in names {
-        copies.push(name.copy(alloc)?)?;
-    }
-    Ok(copies)
-}
-
 /// The names with one more at this place.
 fn with_name(alloc: Global, names: &[Name], at: usize, name: &Name) -> Result<Vec<Name>, NoMemory>
     requires { at ≤ length names.now }
     ensures { IfOk result (λ longer. longer.items ≡ insert names.now at name.now) }
 {
-    let mut longer = copies_of(alloc, names)?;
+    let mut longer = copies(alloc, names)?;
     longer.insert(at, name.copy(alloc)?)?;
     Ok(longer)
 }

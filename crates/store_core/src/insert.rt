@@ -1,27 +1,27 @@
 //! The command `insert`.
 
-ghost use Rattle.std.specs.Prelude.{◌≡◌, ◌∷◌, ◌≢◌, ◌≤◌, [], length, IsFalse, IfOk, IfErr, OnOk, Some, Err};
+ghost use Rattle.std.specs.Prelude.{◌≡◌, ◌∷◌, ◌≢◌, ◌+◌, ◌≤◌, [], length, not, ◌&&◌, IsFalse, IfOk, IfErr, OnOk, Some, Err};
 ghost use Rattle.gopass_base.specs.Text.{Text};
-ghost use Rattle.gopass_base.specs.Faults.{IsCaused, counted};
+ghost use Rattle.gopass_base.specs.Faults.{HasCause, counted};
 ghost use Rattle.path_rules.specs.Governing.{governing_ids};
 ghost use Rattle.disk_model.specs.Runs.{Leaves};
 ghost use Rattle.store_state.specs.Places.{secret_path};
 ghost use Rattle.store_core.specs.Elsewhere.{IsSameElsewhere};
 ghost use Rattle.store_core.specs.Moment.{one_tool};
 ghost use Rattle.store_core.specs.Does.{Does, Keeps};
-ghost use Rattle.store_core.specs.Refusals.{said_by};
+ghost use Rattle.store_core.specs.Refusals.{IsAbout, said_by};
 ghost use Rattle.store_core.specs.Insert.{plan_insert};
-ghost use Rattle.store_core.specs.Inserting.{IsPutOf, IsTested, IsUnruled, SealsBody};
+ghost use Rattle.store_core.specs.Inserting.{IsRefusalByCommit, IsPutOf, IsTested, IsUnruled, SealsBody};
 
 use crate::grown::{take_over, with_secret};
-use crate::reads::is_among;
+use crate::reads::has_name;
 use crate::refusal::Refusal;
 use crate::store::Store;
 use cipher_port::{Cipher, SealFault};
 use disk_model::Disk;
 use gopass_base::NoMemory;
 use mount_table::Name;
-use pending_journal::Change;
+use pending_journal::{Change, ChangeAddFault, CommitFault};
 use recipient_files::Recipients;
 use std::alloc::Global;
 use store_state::{Limit, MOST_FILES, MOST_SECRETS};
@@ -29,7 +29,8 @@ use store_state::{Limit, MOST_FILES, MOST_SECRETS};
 /// The most bytes of a body.
 const MOST_BODY: usize = 32_768;
 
-/// The body sealed for these recipients.
+/// The body sealed for these recipients. The name for a refusal is there before the tool is called, so
+/// that no fault of it is told as want of memory.
 fn seal_body<C: Cipher>(
     alloc: Global,
     name: &Name,
@@ -40,22 +41,40 @@ fn seal_body<C: Cipher>(
     requires { length body.now ≤ 32768 }
     ensures seals { C.meaning.tells → SealsBody C.meaning.opens (C.meaning.ring tool.old) ids.now name.now body.now result }
     ensures ring { C.meaning.ring tool.new ≡ C.meaning.ring tool.old }
-    ensures calls { C.meaning.calls tool.new ≡ counted (C.meaning.calls tool.old) }
+    ensures once { C.meaning.calls tool.new ≤ C.meaning.calls tool.old + 1 }
+    ensures calls { result ≢ Err Refusal.NoMemory → C.meaning.calls tool.new ≡ counted (C.meaning.calls tool.old) }
     ensures no_disk { result ≢ Err Refusal.Disk }
-    ensures cause { IsCaused (C.meaning.faults tool.old) (C.meaning.faults tool.new) ((name : Text) × (result ≡ Err (Refusal.Tool name))) }
-    ensures stays { ((name : Text) → result ≢ Err (Refusal.Tool name)) → result ≢ Err Refusal.NoMemory → C.meaning.faults tool.new ≡ C.meaning.faults tool.old }
+    ensures about { IfErr result (IsAbout name.now) }
+    ensures cause { HasCause (C.meaning.faults tool.old) (C.meaning.faults tool.new) ((name : Text) × (result ≡ Err (Refusal.Tool name))) }
 {
+    let own = name.copy(alloc)?;
     match tool.seal(alloc, ids, body) {
         Ok(sealed) => Ok(sealed),
         Err(SealFault::UnknownId(place)) => match ids.ids()[place].copy(alloc) {
             Ok(id) => Err(Refusal::UnknownId(id)),
             Err(_) => Err(Refusal::NoMemory),
         },
-        Err(SealFault::Failed) => match name.copy(alloc) {
-            Ok(name) => Err(Refusal::Tool(name)),
-            Err(_) => Err(Refusal::NoMemory),
-        },
+        Err(SealFault::Failed) => Err(Refusal::Tool(own)),
         Err(SealFault::NoMemory) => Err(Refusal::NoMemory),
+    }
+}
+
+/// Whether a secret is not to be put, because it is there.
+fn is_in_the_way(there: bool, force: bool) -> bool
+    ensures { result ≡ (not force && there) }
+{
+    !force && there
+}
+
+/// What a fault of a commit says, on a store that was not stuck.
+fn refusal_by_commit(fault: CommitFault) -> Refusal
+    requires { fault ≢ CommitFault.Stuck }
+    ensures { IsRefusalByCommit fault result }
+{
+    match fault {
+        CommitFault::Disk => Refusal::Disk,
+        CommitFault::NoMemory => Refusal::NoMemory,
+        CommitFault::Stuck => unreachable!(),
     }
 }
 
@@ -63,11 +82,11 @@ impl<D: Disk> Store<D> {
     /// The recipients of the secret, once more.
     fn rule_for(&self, name: &Name) -> Result<Recipients, Refusal>
         ensures rule { IfOk result (λ ids. governing_ids self.now.found.rules self.now.found.mounts name.now ≡ Some ids) }
-        ensures none { IfErr result (IsUnruled (governing_ids self.now.found.rules self.now.found.mounts name.now)) }
+        ensures none { IfErr result (IsUnruled name.now (governing_ids self.now.found.rules self.now.found.mounts name.now)) }
     {
         match self.governing(name) {
             Some(ids) => Ok(ids.copy()?),
-            None => Err(Refusal::NoRule),
+            None => Err(Refusal::NoRule(name.copy(self.alloc())?)),
         }
     }
 
@@ -77,10 +96,10 @@ impl<D: Disk> Store<D> {
         ensures short { OnOk result (length body.now ≤ 32768) }
         ensures no_disk { result ≢ Err Refusal.Disk }
     {
-        let there = is_among(self.names(), name);
+        let there = has_name(self.names(), name);
         let row = self.mounts().resolve(name).row;
-        if !force && there {
-            Err(Refusal::Exists)
+        if is_in_the_way(there, force) {
+            Err(Refusal::Exists(name.copy(self.alloc())?))
         } else if body.len() > MOST_BODY {
             Err(Refusal::Full(Limit::Body))
         } else if there {
@@ -96,16 +115,19 @@ impl<D: Disk> Store<D> {
 
     /// The change that puts the sealed bytes into the file of the secret. Only memory can be wanting:
     /// the change holds nothing yet, and the file of a secret is none of the vault's own.
-    fn put_of(&self, alloc: Global, name: &Name, sealed: Vec<u8>) -> Result<Change, NoMemory>
+    fn put_of(&self, name: &Name, sealed: Vec<u8>) -> Result<Change, NoMemory>
         ensures { IfOk result (IsPutOf self.now.vault.root self.now.found name.now sealed.items) }
     {
         // A name is one, which a file of a secret needs.
         let _ = name.text();
         let path = self.mounts().file_of(name)?;
-        let mut change = Change::new(alloc, self.vault.root())?;
+        let mut change = Change::new(self.alloc(), self.vault.root())?;
         match change.put(path, sealed) {
             Ok(()) => Ok(change),
-            Err(_) => Err(NoMemory),
+            Err(ChangeAddFault::NoMemory) => Err(NoMemory),
+            Err(ChangeAddFault::TwoForOne) => unreachable!(),
+            Err(ChangeAddFault::Service) => unreachable!(),
+            Err(ChangeAddFault::Long) => unreachable!(),
         }
     }
 
@@ -114,7 +136,6 @@ impl<D: Disk> Store<D> {
     /// once at most, and no other file than that of the secret is changed.
     pub fn insert<C: Cipher>(
         &mut self,
-        alloc: Global,
         name: &Name,
         body: &[u8],
         force: bool,
@@ -125,16 +146,20 @@ impl<D: Disk> Store<D> {
             (said_by name.now (λ done. []) result) }
         ensures keeps { Keeps 1 self.old self.new (one_tool C.meaning tool.old) (one_tool C.meaning tool.new)
             (said_by name.now (λ done. []) result).status }
+        ensures about { IfErr result (IsAbout name.now) }
         ensures elsewhere { D.meaning.tells → Leaves (IsSameElsewhere self.old.vault.root (secret_path self.old.found.mounts name.now ∷ []) (D.meaning.view self.old.vault.disk).files)
             (D.meaning.view self.old.vault.disk) (D.meaning.view self.new.vault.disk) }
     {
+        let alloc = self.alloc();
         let ids = self.rule_for(name)?;
         self.test(name, body, force)?;
         let sealed = seal_body(alloc, name, &ids, body, tool)?;
         let grown = with_secret(alloc, &self.found, name)?;
-        let change = self.put_of(alloc, name, sealed)?;
-        self.vault.commit(&change)?;
-        take_over(&mut self.found, grown);
+        let change = self.put_of(name, sealed)?;
+        match self.vault.commit(&change) {
+            Ok(()) => take_over(&mut self.found, grown),
+            Err(fault) => return Err(refusal_by_commit(fault)),
+        }
         Ok(())
     }
 }

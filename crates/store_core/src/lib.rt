@@ -5,6 +5,7 @@ mod grown;
 mod insert;
 mod laws;
 mod open_store;
+mod read_fault;
 mod reads;
 mod refusal;
 mod show;
@@ -12,8 +13,10 @@ mod store;
 
 pub use laws::insert_keeps;
 pub use open_store::StoreOpened;
+pub use read_fault::ReadFault;
 pub use refusal::Refusal;
 pub use store::Store;
+pub use store_state::{Limit, StoreFault};
 
 #[cfg(test)]
 mod tests;

@@ -3,10 +3,9 @@
 ghost use Rattle.std.specs.Prelude.{◌≡◌};
 ghost use Rattle.store_core.specs.declared.refusal.Refusal.TheVariants.{NoMemory as no_memory};
 
-use disk_model::DiskFault;
+use crate::read_fault::ReadFault;
 use gopass_base::NoMemory;
 use mount_table::Name;
-use pending_journal::CommitFault;
 use recipient_files::Id;
 use store_state::Limit;
 
@@ -18,9 +17,9 @@ pub enum Refusal {
     /// The name is that of a folder, and of no secret.
     IsFolder,
     /// The secret is there, and is not to be written over.
-    Exists,
+    Exists(Name),
     /// No rule governs the name.
-    NoRule,
+    NoRule(Name),
     /// A limit would be passed.
     Full(Limit),
     /// An id of the rule that the tool does not know.
@@ -44,31 +43,16 @@ impl From<NoMemory> for Refusal {
     }
 }
 
-impl From<DiskFault> for Refusal {
+impl From<ReadFault> for Refusal {
     ghost use Rattle.std.specs.Prelude.{◌≡◌};
-    ghost use Rattle.store_core.specs.Refusals.{refusal_by_disk};
+    ghost use Rattle.store_core.specs.Refusals.{refusal_by_read};
 
-    ghost from_gives = { λ fault e. e ≡ refusal_by_disk fault };
+    ghost from_gives = { λ fault e. e ≡ refusal_by_read fault };
 
-    fn from(fault: DiskFault) -> Self {
+    fn from(fault: ReadFault) -> Self {
         match fault {
-            DiskFault::Failed => Refusal::Disk,
-            DiskFault::NoMemory => Refusal::NoMemory,
-        }
-    }
-}
-
-impl From<CommitFault> for Refusal {
-    ghost use Rattle.std.specs.Prelude.{◌≡◌};
-    ghost use Rattle.store_core.specs.Inserting.{refusal_by_commit};
-
-    ghost from_gives = { λ fault e. e ≡ refusal_by_commit fault };
-
-    fn from(fault: CommitFault) -> Self {
-        match fault {
-            // No command is begun on a store that is stuck.
-            CommitFault::Disk | CommitFault::Stuck => Refusal::Disk,
-            CommitFault::NoMemory => Refusal::NoMemory,
+            ReadFault::Disk => Refusal::Disk,
+            ReadFault::NoMemory => Refusal::NoMemory,
         }
     }
 }

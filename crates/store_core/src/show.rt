@@ -1,16 +1,16 @@
 //! The command `show`.
 
-ghost use Rattle.std.specs.Prelude.{◌≡◌, ◌≢◌, IsFalse, Err};
+ghost use Rattle.std.specs.Prelude.{◌≡◌, ◌≢◌, ◌+◌, ◌≤◌, length, IsFalse, IfOk, IfErr, Err};
 ghost use Rattle.gopass_base.specs.Text.{Text};
-ghost use Rattle.gopass_base.specs.Faults.{IsCaused, counted};
+ghost use Rattle.gopass_base.specs.Faults.{HasCause, counted};
 ghost use Rattle.disk_model.specs.Disk.{Rests};
 ghost use Rattle.store_core.specs.Moment.{one_tool};
 ghost use Rattle.store_core.specs.Does.{Does, Keeps};
-ghost use Rattle.store_core.specs.Refusals.{said_by};
+ghost use Rattle.store_core.specs.Refusals.{IsAbout, said_by};
 ghost use Rattle.store_core.specs.Show.{plan_show};
-ghost use Rattle.store_core.specs.Unsealing.{IsRefusalBy, Shows, why_missing};
+ghost use Rattle.store_core.specs.Unsealing.{IsNotSealed, Shows, refusal_by_tool, why_missing};
 
-use crate::reads::{holds_one, is_among};
+use crate::reads::{has_name, holds_one};
 use crate::refusal::Refusal;
 use crate::store::Store;
 use cipher_port::{Cipher, UnsealFault};
@@ -30,18 +30,29 @@ fn why_missing(names: &[Name], name: &Name) -> Refusal
 }
 
 /// What a fault of the tool says of the secret.
-fn refusal_by(alloc: Global, name: &Name, fault: UnsealFault) -> Refusal
-    ensures { IsRefusalBy name.now fault result }
+fn refusal_by_tool(name: Name, fault: UnsealFault) -> Refusal
+    ensures { result ≡ refusal_by_tool name fault }
 {
-    match (name.copy(alloc), fault) {
-        (Ok(name), UnsealFault::NoKey) => Refusal::NoKey(name),
-        (Ok(name), UnsealFault::NotSealed) => Refusal::NotSealed(name),
-        (Ok(name), UnsealFault::Failed) => Refusal::Tool(name),
-        _ => Refusal::NoMemory,
+    match fault {
+        UnsealFault::NoKey => Refusal::NoKey(name),
+        UnsealFault::NotSealed => Refusal::NotSealed(name),
+        UnsealFault::Failed => Refusal::Tool(name),
+        UnsealFault::NoMemory => Refusal::NoMemory,
     }
 }
 
-/// The body of the sealed bytes in the file of the secret.
+/// What is said of a secret whose file is not sealed.
+fn not_sealed(alloc: Global, name: &Name) -> Refusal
+    ensures { IsNotSealed name.now result }
+{
+    match name.copy(alloc) {
+        Ok(name) => Refusal::NotSealed(name),
+        Err(_) => Refusal::NoMemory,
+    }
+}
+
+/// The body of the sealed bytes in the file of the secret. The name for a refusal is there before the
+/// tool is called, so that no fault of it is told as want of memory.
 fn unseal<C: Cipher>(
     alloc: Global,
     name: &Name,
@@ -50,39 +61,39 @@ fn unseal<C: Cipher>(
 ) -> Result<Vec<u8>, Refusal>
     ensures shows { C.meaning.tells → Shows name.now (C.meaning.opens sealed.now) (C.meaning.ring tool.old) result }
     ensures ring { C.meaning.ring tool.new ≡ C.meaning.ring tool.old }
-    ensures calls { C.meaning.calls tool.new ≡ counted (C.meaning.calls tool.old) }
+    ensures once { C.meaning.calls tool.new ≤ C.meaning.calls tool.old + 1 }
+    ensures calls { result ≢ Err Refusal.NoMemory → C.meaning.calls tool.new ≡ counted (C.meaning.calls tool.old) }
     ensures no_disk { result ≢ Err Refusal.Disk }
-    ensures cause { IsCaused (C.meaning.faults tool.old) (C.meaning.faults tool.new) ((name : Text) × (result ≡ Err (Refusal.Tool name))) }
-    ensures stays { ((name : Text) → result ≢ Err (Refusal.Tool name)) → result ≢ Err Refusal.NoMemory → C.meaning.faults tool.new ≡ C.meaning.faults tool.old }
+    ensures about { IfErr result (IsAbout name.now) }
+    ensures bound { IfOk result (λ body. length body.items ≤ 32768) }
+    ensures cause { HasCause (C.meaning.faults tool.old) (C.meaning.faults tool.new) ((name : Text) × (result ≡ Err (Refusal.Tool name))) }
 {
+    let own = name.copy(alloc)?;
     match tool.open(alloc, sealed) {
         Ok(body) => Ok(body),
-        Err(fault) => Err(refusal_by(alloc, name, fault)),
+        Err(fault) => Err(refusal_by_tool(own, fault)),
     }
 }
 
 impl<D: Disk> Store<D> {
     /// The body of the secret. It is opened with one call of the tool, and nothing is changed.
-    pub fn show<C: Cipher>(
-        &mut self,
-        alloc: Global,
-        name: &Name,
-        tool: &mut C,
-    ) -> Result<Vec<u8>, Refusal>
+    pub fn show<C: Cipher>(&mut self, name: &Name, tool: &mut C) -> Result<Vec<u8>, Refusal>
         requires free { IsFalse self.old.vault.stuck }
         ensures planned { Does (λ ring. plan_show ring name.now) self.old self.new (one_tool C.meaning tool.old) (one_tool C.meaning tool.new)
             (said_by name.now (λ body. body.items) result) }
         ensures keeps { Keeps 1 self.old self.new (one_tool C.meaning tool.old) (one_tool C.meaning tool.new)
             (said_by name.now (λ body. body.items) result).status }
+        ensures about { IfErr result (IsAbout name.now) }
+        ensures bound { IfOk result (λ body. length body.items ≤ 32768) }
         ensures rests { D.meaning.tells → Rests (D.meaning.view self.old.vault.disk) (D.meaning.view self.new.vault.disk) }
     {
-        if !is_among(self.names(), name) {
+        if !has_name(self.names(), name) {
             return Err(why_missing(self.names(), name));
         }
         let path = self.mounts().file_of(name)?;
         match self.read_at(&path)? {
-            Some(sealed) => unseal(alloc, name, &sealed, tool),
-            None => Err(refusal_by(alloc, name, UnsealFault::NotSealed)),
+            Some(sealed) => unseal(self.alloc(), name, &sealed, tool),
+            None => Err(not_sealed(self.alloc(), name)),
         }
     }
 }

@@ -6,15 +6,16 @@ use Rattle.std.proofs.lemmas.List.{append_assoc, append_cancel_left, drop_at}
 use Rattle.std.proofs.lemmas.List.Elements.{All-nil, All-cons, All-head, All-tail}
 use Rattle.std.proofs.lemmas.Slice.Eq.{bytes_eq-Decides}
 use Rattle.gopass_base.specs.Text.{Text}
-use Rattle.mount_table.specs.Names.{parts, IsHidden, IsNamePart}
+use Rattle.gopass_base.specs.Parts.{parts, IsHidden}
+use Rattle.mount_table.specs.Names.{IsNamePart}
 use Rattle.mount_table.specs.Folders.{IsFolder}
-use Rattle.mount_table.specs.Paths.{path_in}
+use Rattle.gopass_base.specs.Paths.{path_in}
 use Rattle.mount_table.specs.Prefixes.{folder_parts, IsPrefix}
 use Rattle.mount_table.specs.Mounts.{row_at, IsTable, IsMountOfFolder}
 use Rattle.mount_table.specs.declared.mounts.Row.{Row}
 use Rattle.mount_table.proofs.PartLemmas.{parts_fill}
 use Rattle.mount_table.proofs.PrefixLemmas.{by_bytes}
-use Rattle.mount_table.proofs.JoinLemmas.{parts_join}
+use Rattle.gopass_base.proofs.JoinLemmas.{parts_join}
 use Rattle.disk_model.specs.Files.{Files}
 use Rattle.disk_model.specs.Listing.{LiesIn, lies_in, rest_in}
 use Rattle.disk_model.proofs.ListingLemmas.{lies_by, rest_is}

@@ -3,11 +3,12 @@ use Rattle.std.proofs.Common.{◌≡◌, ◌≢◌, inl, inr, ◌+◌, ◌≤◌
 use Rattle.std.specs.Prelude.{All}
 use Rattle.std.proofs.lemmas.List.Elements.{All-nil, All-cons, All-head, All-tail, All-append}
 use Rattle.gopass_base.specs.Text.{Text}
-use Rattle.mount_table.specs.Names.{parts, IsHidden, IsNamePart}
+use Rattle.gopass_base.specs.Parts.{parts, IsHidden}
+use Rattle.mount_table.specs.Names.{IsNamePart}
 use Rattle.mount_table.specs.Folders.{IsFolder}
-use Rattle.mount_table.specs.Paths.{IsPathPart, IsFilePath, IsDirPath, path_in}
+use Rattle.gopass_base.specs.Paths.{IsPathPart, IsFilePath, IsDirPath, path_in}
 use Rattle.mount_table.specs.Prefixes.{folder_parts, IsPrefix}
-use Rattle.mount_table.proofs.JoinLemmas.{parts_join, path_in_good, printable_text}
+use Rattle.gopass_base.proofs.JoinLemmas.{parts_join, path_in_good, printable_text}
 use Rattle.mount_table.proofs.PrefixLemmas.{by_bytes}
 use Rattle.disk_model.specs.Listing.{rest_in}
 use Rattle.disk_model.proofs.ListingLemmas.{rest_is}

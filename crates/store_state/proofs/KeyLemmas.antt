@@ -1,5 +1,5 @@
 -- The keys of a finite map from texts.
-use Rattle.std.proofs.Common.{◌≡◌, inl, inr, ◌≤◌, true, T, List, [], ◌∷◌, length, Option, Some, None, refl, ap, sym, ◌∙◌, subst, arith}
+use Rattle.std.proofs.Common.{◌≡◌, ◌≤◌, true, T, List, [], ◌∷◌, length, Option, Some, None, refl, ap, sym, ◌∙◌, arith}
 use Rattle.std.specs.Prelude.{Contains, is_some, map as each}
 use Rattle.std.specs.List.{list_any, AllByRecursion}
 use Rattle.std.specs.List.Sorted.{IsStrictlySortedBy}
@@ -15,9 +15,8 @@ use Rattle.std.proofs.lemmas.List.{length-map}
 use Rattle.std.proofs.lemmas.Map.Views.{Contains-from_any, list_any-from_Contains}
 use Rattle.std.proofs.lemmas.Map.Lookups.{exact_bytes}
 use Rattle.gopass_base.specs.Text.{Text}
-use Rattle.mount_table.proofs.OrderLemmas.{not_below_itself}
+use Rattle.disk_model.proofs.ListingLemmas.{as_long}
 use Rattle.gopass_base.specs.Order.{IsRising, TextMap}
-use Rattle.gopass_base.proofs.ListLemmas.{first_or, later}
 use Rattle.gopass_base.proofs.OrderLemmas.{both, less}
 use Rattle.store_state.proofs.TableLemmas.{equal}
 
@@ -69,36 +68,6 @@ pub keys_rise : {X : Type 0} (m : TextMap X) → IsRising (map.keys m)
 keys_rise m = rising_entries (map.entries m) (map.entries_sorted m)
 
 -- ---- how many there are
-
--- what is above all of a list is above each text of it
-each_above : (x : Text) (xs : List Text) → AllByRecursion (λ y. slice_cmp nat_cmp x y ≡ Less) xs → (q : Text) → Contains xs q → slice_cmp nat_cmp x q ≡ Less
-each_above x [] all q (k, lt, is) = absurd (omega (arith, lt))
-each_above x (y ∷ xs) all q has = elim (first_or y xs q has) [
-  | inl same ↦ subst (λ (t : Text). slice_cmp nat_cmp x t ≡ Less) same all.0
-  | inr more ↦ each_above x xs all.1 q more
-]
-
-not_itself : (x : Text) (xs : List Text) → AllByRecursion (λ y. slice_cmp nat_cmp x y ≡ Less) xs → ¬ Contains xs x
-not_itself x xs all has = not_below_itself x (each_above x xs all x has)
-
--- of two rising lists, one that has each text of the other is as long at least
-pub as_long : (xs ys : List Text) → IsRising xs → IsRising ys → ((q : Text) → Contains xs q → Contains ys q) → length xs ≤ length ys
-unfolding IsStrictlySortedBy
-as_long [] ys up upper has = omega arith
-as_long (x ∷ xs) [] up upper has = (let (k, lt, is) = has x (0, omega arith, refl) in absurd (omega (arith, lt)))
-as_long (x ∷ xs) (y ∷ ys) up upper has = elim (first_or y ys x (has x (0, omega arith, refl))) [
-  | inl same ↦ (let more = as_long xs ys up.1 upper.1 (λ q there. elim (first_or y ys q (has q (later x xs q there))) [
-    | inl again ↦ absurd (not_itself x xs up.0 (subst (Contains xs) (sym again ∙ same) there))
-    | inr behind ↦ behind
-  ]) in omega (arith, more))
-  | inr inside ↦ (let more = as_long (x ∷ xs) ys up upper.1 (λ q there. elim (first_or y ys q (has q there)) [
-    | inl again ↦ absurd (elim (first_or x xs q there) [
-      | inl same ↦ not_itself y ys upper.0 (subst (Contains ys) (same ∙ sym again) inside)
-      | inr after ↦ not_below_itself q (nat_list_cmp_total.trans q x q (subst (λ (t : Text). slice_cmp nat_cmp t x ≡ Less) again (each_above y ys upper.0 x inside)) (each_above x xs up.0 q after))
-    ])
-    | inr behind ↦ behind
-  ]) in omega (arith, more))
-]
 
 module _ {X : Type 0} (m : TextMap X) where
   pub length-keys : map.len m ≡ length (map.keys m)

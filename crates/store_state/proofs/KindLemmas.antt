@@ -9,7 +9,7 @@ use Rattle.gopass_base.specs.Text.{Text}
 use Rattle.std.proofs.lemmas.Bool.Decides.{Decides-eqb}
 use Rattle.disk_model.specs.Listing.{rest_in}
 use Rattle.disk_model.proofs.ListingLemmas.{rest_behind}
-use Rattle.mount_table.specs.Paths.{path_in}
+use Rattle.gopass_base.specs.Paths.{path_in}
 use Rattle.mount_table.specs.Folders.{IsFolder}
 use Rattle.mount_table.specs.Prefixes.{folder_parts}
 use Rattle.mount_table.specs.Mounts.{IsBelow, IsTable, IsMountOfFolder, no_row, row_at}

@@ -6,13 +6,14 @@ use Rattle.std.proofs.lemmas.List.{append_cancel_left}
 use Rattle.std.proofs.lemmas.List.Elements.{All-head}
 use Rattle.std.proofs.lemmas.Slice.Eq.{bytes_eq-Decides}
 use Rattle.gopass_base.specs.Text.{Text}
-use Rattle.mount_table.specs.Names.{parts, IsHidden, IsName}
-use Rattle.mount_table.specs.Paths.{path_in}
+use Rattle.gopass_base.specs.Parts.{parts, IsHidden}
+use Rattle.mount_table.specs.Names.{IsName}
+use Rattle.gopass_base.specs.Paths.{path_in}
 use Rattle.mount_table.specs.Prefixes.{Nest}
 use Rattle.mount_table.specs.Mounts.{row_at, IsTable}
 use Rattle.mount_table.specs.MountOf.{mount_of}
 use Rattle.mount_table.specs.declared.mounts.Row.{Row}
-use Rattle.mount_table.proofs.JoinLemmas.{parts_join}
+use Rattle.gopass_base.proofs.JoinLemmas.{parts_join}
 use Rattle.mount_table.proofs.OrderLemmas.{longer_begins}
 use Rattle.mount_table.proofs.TableLemmas.{sides}
 use Rattle.mount_table.proofs.MountOfLemmas.{mount_computed}

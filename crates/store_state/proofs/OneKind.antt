@@ -4,11 +4,13 @@ use Rattle.std.specs.Prelude.{All, codes}
 use Rattle.std.proofs.lemmas.List.{append_assoc, append_cancel_right}
 use Rattle.std.proofs.lemmas.List.Elements.{All-nil, All-cons, All-head, All-tail}
 use Rattle.gopass_base.specs.Text.{Text}
-use Rattle.mount_table.specs.Names.{parts, IsHidden, IsNamePart}
+use Rattle.gopass_base.specs.Parts.{parts, IsHidden}
+use Rattle.mount_table.specs.Names.{IsNamePart}
 use Rattle.mount_table.specs.Mounts.{row_at, IsMountOf, IsMountOfFolder}
 use Rattle.mount_table.specs.declared.mounts.Row.{Row}
 use Rattle.mount_table.proofs.PartLemmas.{parts_fill}
-use Rattle.mount_table.proofs.JoinLemmas.{parts_join, with_ending, parts_with_ending}
+use Rattle.gopass_base.proofs.JoinLemmas.{parts_join}
+use Rattle.mount_table.proofs.FileLemmas.{with_ending, parts_with_ending}
 use Rattle.store_state.specs.declared.kind.Kind.{Kind}
 use Rattle.store_state.specs.declared.kind.Kind.TheVariants.{Secret, Rule, Template, Shadowed, Hidden, Strange}
 use Rattle.store_state.specs.Places.{HasHidden, IsFolderFileAt, IsKind, IsRuleOrTemplate, IsSecretAt, folder_under, in_folder, rule_file, template_file}

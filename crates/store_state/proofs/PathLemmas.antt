@@ -3,8 +3,9 @@ use Rattle.std.proofs.Common.{◌≡◌, ℕ, ◌+◌, List, [], ◌∷◌, ◌+
 use Rattle.std.specs.Prelude.{codes}
 use Rattle.std.proofs.lemmas.List.{drop_at, append_assoc}
 use Rattle.gopass_base.specs.Text.{Text}
-use Rattle.mount_table.specs.Names.{IsHidden, IsName}
-use Rattle.mount_table.specs.Paths.{path_in, file_of}
+use Rattle.gopass_base.specs.Parts.{IsHidden}
+use Rattle.mount_table.specs.Names.{IsName}
+use Rattle.gopass_base.specs.Paths.{path_in, file_of}
 use Rattle.mount_table.specs.Prefixes.{Holds, rest_start}
 use Rattle.mount_table.specs.Mounts.{row_at, IsTable, IsMountOf}
 use Rattle.mount_table.specs.MountOf.{mount_of}

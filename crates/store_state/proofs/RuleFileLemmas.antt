@@ -1,23 +1,27 @@
 -- The rules that were read of the first folders, and of one folder more.
-use Rattle.std.proofs.Common.{◌≡◌, inl, inr, ℕ, ◌+◌, ◌<◌, ◌≤◌, Bool, true, false, cond, List, [], ◌∷◌, ◌++◌, length, get_or, take, drop, Option, Some, None, refl, ap, sym, ◌∙◌, subst, arith}
-use Rattle.std.specs.Prelude.{Contains}
+use Rattle.std.proofs.Common.{◌≡◌, inl, inr, ℕ, ◌+◌, ◌<◌, ◌≤◌, Bool, true, false, cond, List, [], ◌∷◌, ◌++◌, length, get_or, take, drop, Option, Some, None, refl, ap, sym, ◌∙◌, subst, arith, take-append-drop}
+use Rattle.std.specs.Prelude.{Contains, Err}
 use Rattle.std.specs.Ordering.{nat_cmp, eq_by_cmp}
 use Rattle.std.specs.Cmp.Lexicographic.{slice_cmp}
 use Rattle.std.specs.FinMap as map
 use Rattle.std.proofs.lemmas.Bool.{true≢false}
 use Rattle.std.proofs.lemmas.Cmp.{nat_list_cmp_total}
 use Rattle.std.proofs.lemmas.List.{drop_more}
-use Rattle.std.proofs.Common.{take-append-drop}
 use Rattle.std.proofs.lemmas.List.Elements.{Contains-push, Contains-push_cases, Contains-append_left}
 use Rattle.std.proofs.lemmas.Map.Lookups.{exact_bytes}
 use Rattle.gopass_base.specs.Text.{Text}
+use Rattle.mount_table.specs.Mounts.{IsMountOfFolder}
 use Rattle.mount_table.specs.declared.mounts.Row.{Row}
 use Rattle.disk_model.specs.Files.{Files}
 use Rattle.recipient_files.specs.Ids.{Ids}
 use Rattle.path_rules.specs.RuleMap.{RuleMap, rule_at}
 use Rattle.recipient_files.proofs.SetLemmas.{is_among_tells, not_before}
 use Rattle.gopass_base.specs.Order.{IsRising}
-use Rattle.store_state.specs.RuleFiles.{AreRules, IsRuleThere, with_rule}
+use Rattle.pending_journal.specs.Service.{without_service}
+use Rattle.store_state.specs.Places.{rule_path}
+use Rattle.store_state.specs.declared.fault.StoreFault.{StoreFault}
+use Rattle.store_state.specs.declared.fault.StoreFault.TheVariants.{BadFile, Full, Disk, NoMemory}
+use Rattle.store_state.specs.RuleFiles.{AreRules, IsBadThere, IsRuleThere, ReadsRule, TellsRule, with_rule}
 use Rattle.store_state.proofs.TableLemmas.{equal, ties}
 
 -- ---- a rule that came
@@ -84,3 +88,12 @@ none_before folders i folder up lt is has =
     let out = not_before (take i folders) folder (drop (i + 1) folders) (subst IsRising whole up) in
     let within = (is_among_tells (take i folders) folder).1 has in
     true≢false (sym within ∙ out)
+
+-- a rule file that is read and tells a fault is bad there
+pub told_there : (root : Text) (files : Files) (mounts : List Row) (folder path bytes : Text) (k : ℕ) → IsMountOfFolder mounts folder k → path ≡ rule_path mounts k folder
+    → without_service root files path ≡ Some bytes → length bytes ≤ 65536 → (fault : StoreFault) → TellsRule path bytes (Err fault) → ReadsRule root files mounts folder (Err fault)
+told_there root files mounts folder path bytes k mount at here short (BadFile other line) (same, bad, first, is) =
+    subst (λ (p : Text). IsBadThere root files mounts folder p line) (sym same) (k, mount, at, bytes, here, inl (short, bad, first, is))
+told_there root files mounts folder path bytes k mount at here short (Full kind) t = absurd t
+told_there root files mounts folder path bytes k mount at here short Disk t = absurd t
+told_there root files mounts folder path bytes k mount at here short NoMemory t = tt

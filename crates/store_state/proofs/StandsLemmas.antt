@@ -7,14 +7,13 @@ use Rattle.std.specs.Ordering.{nat_cmp}
 use Rattle.std.specs.Cmp.Lexicographic.{slice_cmp}
 use Rattle.std.proofs.lemmas.Bool.{true≢false}
 use Rattle.std.proofs.lemmas.List.Elements.{Contains-append_left, Contains-append_right, Contains-append_cases}
-use Rattle.gopass_base.specs.Text.{Text}
+use Rattle.gopass_base.specs.Text.{Text, is_among}
 use Rattle.gopass_base.proofs.ListLemmas.{later as behind, first_or}
 use Rattle.mount_table.specs.Names.{IsName}
 use Rattle.mount_table.specs.Mounts.{IsTable}
 use Rattle.disk_model.specs.Files.{Files}
 use Rattle.pending_journal.specs.Service.{without_service}
 use Rattle.cipher_port.specs.Tool.{Opens}
-use Rattle.recipient_files.specs.Ids.{is_among}
 use Rattle.recipient_files.proofs.SetLemmas.{is_among_tells}
 use Rattle.store_state.specs.declared.kind.Kind.{Kind}
 use Rattle.store_state.specs.declared.kind.Kind.TheVariants.{Rule, Template}

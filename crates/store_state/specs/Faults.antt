@@ -14,9 +14,9 @@ store_fault_by_disk Failed = Disk
 store_fault_by_disk NoRoom = NoMemory
 
 -- and a fault of rules
-abbrev pub fault_of_rules : RulesFault → StoreFault
-fault_of_rules NoRulesRoom = Full limit.Rules
-fault_of_rules NoRulesMemory = NoMemory
+abbrev pub store_fault_by_rules : RulesFault → StoreFault
+store_fault_by_rules NoRulesRoom = Full limit.Rules
+store_fault_by_rules NoRulesMemory = NoMemory
 
 -- a value for which this holds; or a fault, of which a limit of files tells this, and no other limit or file is named
 abbrev pub GivesOrFull : {X : Type 0} → (X → Type 0) → Type 0 → Result X StoreFault → Type 0

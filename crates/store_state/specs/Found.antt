@@ -1,7 +1,7 @@
 -- What is found below the mounts of a store.
 use Rattle.std.specs.Prelude.{◌≡◌, ◌⊎◌, ◌↔◌, ℕ, List, [], ◌∷◌, ◌++◌, Contains}
 use Rattle.gopass_base.specs.Text.{Text}
-use Rattle.mount_table.specs.Paths.{path_in}
+use Rattle.gopass_base.specs.Paths.{path_in}
 use Rattle.mount_table.specs.Mounts.{row_at}
 use Rattle.mount_table.specs.declared.mounts.Row.{Row}
 use Rattle.store_state.specs.declared.kind.Kind.{Kind}

@@ -1,7 +1,7 @@
 -- What the opening of a store finds, or what refuses it.
-use Rattle.std.specs.Prelude.{◌≡◌, ◌≢◌, ◌⊎◌, ℕ, ◌<◌, ◌≤◌, List, length, Contains, Option, None, Some, Result, Ok, Err}
+use Rattle.std.specs.Prelude.{◌≡◌, ◌≢◌, ◌⊎◌, ℕ, ◌<◌, ◌≤◌, List, length, All, Contains, Option, None, Some, Result, Ok, Err}
 use Rattle.gopass_base.specs.Text.{Text}
-use Rattle.mount_table.specs.Mounts.{IsTable}
+use Rattle.mount_table.specs.Mounts.{IsTable, root_of}
 use Rattle.mount_table.specs.MountsText.{IsFirstBad}
 use Rattle.mount_table.specs.declared.mounts.Row.{Row}
 use Rattle.disk_model.specs.Files.{Files}
@@ -47,6 +47,15 @@ pub record IsFound (root : Text) (files : Files) (found : Found) : Type 0 where
   pub few_rules : length found.seen.rules.items ≤ 512
   pub few : length found.seen.names.items ≤ 8192
   pub rules_are : AreRules root files found.mounts found.seen.rules.items found.rules
+
+-- what is found at most, whether or not the disk tells: so many mounts, of which the first is the root directory, rules,
+-- secrets, and files below each mount
+pub record IsWithinLimits (root : Text) (found : Found) : Type 0 where
+  pub rooted : root_of found.mounts ≡ root
+  pub few_mounts : length found.mounts ≤ 64
+  pub few_rules : length found.seen.rules.items ≤ 512
+  pub few_secrets : length found.seen.names.items ≤ 8192
+  pub few_files : All (λ (n : ℕ). n ≤ 40000) found.counts.items
 
 -- the mounts file is bad
 abbrev pub HasBadMounts : (root : Text) → Files → (path : Text) → ℕ → Type 0

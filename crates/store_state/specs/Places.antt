@@ -1,9 +1,10 @@
 -- Where the secrets, rules and templates of a store lie, and what its directories have beside them.
 use Rattle.std.specs.Prelude.{◌≡◌, ◌⊎◌, ℕ, ◌+◌, List, [], ◌∷◌, ◌++◌, length, drop, codes, All}
 use Rattle.gopass_base.specs.Text.{Text}
-use Rattle.mount_table.specs.Names.{parts, IsHidden, IsName}
+use Rattle.gopass_base.specs.Parts.{parts, IsHidden}
+use Rattle.mount_table.specs.Names.{IsName}
 use Rattle.mount_table.specs.Folders.{IsFolder}
-use Rattle.mount_table.specs.Paths.{path_in, file_of}
+use Rattle.gopass_base.specs.Paths.{path_in, file_of}
 use Rattle.mount_table.specs.Prefixes.{rest_start}
 use Rattle.mount_table.specs.Mounts.{row_at, IsMountOf, IsMountOfFolder}
 use Rattle.mount_table.specs.MountOf.{mount_of}

@@ -4,11 +4,11 @@ use Rattle.std.specs.FinMap as map
 use Rattle.gopass_base.specs.Text.{Text}
 use Rattle.gopass_base.specs.Order.{TextMap}
 use Rattle.mount_table.specs.Names.{IsName}
-use Rattle.mount_table.specs.Paths.{path_in, service_text}
+use Rattle.gopass_base.specs.Paths.{path_in, service_text}
 use Rattle.mount_table.specs.Mounts.{IsTable, new_row}
 use Rattle.mount_table.specs.MountsText.{table_text}
 use Rattle.mount_table.specs.declared.mounts.Row.{Row}
-use Rattle.mount_table.specs.declared.service.ServiceFile.TheVariants.{Mounts, Pending}
+use Rattle.gopass_base.specs.declared.service.ServiceFile.TheVariants.{Mounts, Pending}
 use Rattle.disk_model.specs.Files.{Files}
 use Rattle.disk_model.specs.Listing.{has_git}
 use Rattle.pending_journal.specs.Service.{is_service}

@@ -1,8 +1,8 @@
 -- The files below a mount's directory.
 use Rattle.std.specs.Prelude.{◌≡◌, ◌<◌, ◌≤◌, Bool, ◌||◌, not, bytes_eq, filter, List, length, None, if◌then◌else◌}
 use Rattle.gopass_base.specs.Text.{Text}
-use Rattle.mount_table.specs.Paths.{path_in, service_text}
-use Rattle.mount_table.specs.declared.service.ServiceFile.TheVariants.{Mounts, Pending}
+use Rattle.gopass_base.specs.Paths.{path_in, service_text}
+use Rattle.gopass_base.specs.declared.service.ServiceFile.TheVariants.{Mounts, Pending}
 use Rattle.disk_model.specs.Files.{Files}
 use Rattle.disk_model.specs.Listing.{IsListing}
 use Rattle.pending_journal.specs.Service.{without_service}

@@ -61,9 +61,9 @@ impl<T: Drop> From<AllocFailed<T>> for StoreFault {
 
 impl From<RulesFault> for StoreFault {
     ghost use Rattle.std.specs.Prelude.{◌≡◌};
-    ghost use Rattle.store_state.specs.Faults.{fault_of_rules};
+    ghost use Rattle.store_state.specs.Faults.{store_fault_by_rules};
 
-    ghost from_gives = { λ fault e. e ≡ fault_of_rules fault };
+    ghost from_gives = { λ fault e. e ≡ store_fault_by_rules fault };
 
     fn from(fault: RulesFault) -> Self {
         match fault {

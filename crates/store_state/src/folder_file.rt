@@ -2,7 +2,7 @@
 
 ghost use Rattle.std.specs.Prelude.{◌≡◌, ℕ, IfOk, string_bytes};
 ghost use Rattle.mount_table.specs.Mounts.{IsMountOfFolder};
-ghost use Rattle.mount_table.specs.Paths.{path_in};
+ghost use Rattle.gopass_base.specs.Paths.{path_in};
 ghost use Rattle.mount_table.specs.Prefixes.{IsPrefix, folder_parts};
 ghost use Rattle.store_state.specs.Places.{IsFolderFile, folder_path, folder_rest, in_folder};
 

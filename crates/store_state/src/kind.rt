@@ -2,7 +2,8 @@
 
 ghost use Rattle.std.specs.Prelude.{◌≡◌, ◌≢◌, ◌++◌, ◌<◌, ◌↔◌, ◌∷◌, [], length, IfOk, IsTrue, MatchOption, string_bytes, All};
 ghost use Rattle.gopass_base.specs.Text.{Text};
-ghost use Rattle.mount_table.specs.Names.{parts, IsHidden, IsName};
+ghost use Rattle.gopass_base.specs.Parts.{parts, IsHidden};
+ghost use Rattle.mount_table.specs.Names.{IsName};
 ghost use Rattle.mount_table.specs.Folders.{IsFolder};
 ghost use Rattle.mount_table.specs.Mounts.{row_at, root_of, IsTable, IsMountOf, IsMountOfFolder};
 ghost use Rattle.store_state.specs.Places.{HasHidden, IsFolderFileAt, IsKind, IsRuleOrTemplate, folder_under, in_folder, rule_file, template_file};

@@ -1,19 +1,22 @@
 //! What an opening finds.
 
-ghost use Rattle.std.specs.Prelude.{◌≡◌, ◌≢◌, ◌≤◌, Some, Err, length, MatchBool};
-ghost use Rattle.gopass_base.specs.Faults.{HasCause};
+ghost use Rattle.std.specs.Prelude.{◌≡◌, ◌≢◌, ◌≤◌, false, Some, Err, length, IfOk, MatchBool};
+ghost use Rattle.gopass_base.specs.Faults.{Costs, HasCause};
+ghost use Rattle.mount_table.specs.Mounts.{root_of};
 ghost use Rattle.disk_model.specs.Disk.{Rests};
+ghost use Rattle.disk_model.specs.Answers.{Reads, IsWithin};
 ghost use Rattle.pending_journal.specs.Opened.{IsSameVault};
+ghost use Rattle.pending_journal.specs.Service.{is_service, without_service};
 ghost use Rattle.store_state.specs.Tree.{IsOwnOf};
 ghost use Rattle.store_state.specs.State.{mounts_path, pending_path};
 ghost use Rattle.store_state.specs.Order.{IsOrdered};
-ghost use Rattle.store_state.specs.Opening.{OpensStore, TellsMounts, TellsPending};
+ghost use Rattle.store_state.specs.Opening.{IsWithinLimits, OpensStore, TellsMounts, TellsPending};
 
 use crate::fault::{Limit, StoreFault};
 use crate::rule_files::read_rules;
 use crate::seen::{Seen, survey};
 use crate::tree::Own;
-use disk_model::{Disk, Got};
+use disk_model::{Disk, DiskFault, Got};
 use gopass_base::in_order;
 use mount_table::{DirPath, FilePath, Mounts, MountsFault};
 use path_rules::{MOST_RULES, Rules};
@@ -35,6 +38,7 @@ fn mounts_of(
 ) -> Result<Mounts, StoreFault>
     requires { path.now ≡ mounts_path root.now }
     ensures mounts { length bytes.now ≤ 131072 → TellsMounts root.now (Some bytes.now) result }
+    ensures rooted { IfOk result (λ mounts. root_of mounts ≡ root.now) }
     ensures no_disk { result ≢ Err StoreFault.Disk }
 {
     match Mounts::read(alloc, bytes, root) {
@@ -42,6 +46,18 @@ fn mounts_of(
         Err(MountsFault::BadLine(line)) => Err(StoreFault::BadFile(path.copy(alloc)?, line)),
         Err(MountsFault::NoMemory) => Err(StoreFault::NoMemory),
     }
+}
+
+/// The mounts file, where it has at most 131,072 bytes.
+fn mounts_file<D: Disk>(vault: &mut Vault<D>, own: &Own) -> Result<Got, DiskFault>
+    ensures kept { IsSameVault vault.old vault.new }
+    ensures rests { D.meaning.tells → Rests (D.meaning.view vault.old.disk) (D.meaning.view vault.new.disk) }
+    ensures got { IfOk result (λ got. D.meaning.tells → Reads (without_service vault.old.root (D.meaning.view vault.old.disk).files own.now.mounts) 131072 got) }
+    ensures bound { IfOk result (IsWithin 131072) }
+    ensures costs { Costs 1 (D.meaning.calls vault.old.disk) (D.meaning.calls vault.new.disk) (is_service vault.old.root own.now.mounts ≡ false) }
+    ensures cause { HasCause (D.meaning.faults vault.old.disk) (D.meaning.faults vault.new.disk) (result ≡ Err DiskFault.Failed) }
+{
+    vault.read(&own.mounts, MOST_MOUNTS_BYTES)
 }
 
 /// Reads the mounts file.
@@ -56,9 +72,10 @@ fn read_mounts<D: Disk>(
     ensures kept { IsSameVault vault.old vault.new }
     ensures rests { D.meaning.tells → Rests (D.meaning.view vault.old.disk) (D.meaning.view vault.new.disk) }
     ensures mounts { D.meaning.tells → TellsMounts root.now ((D.meaning.view vault.old.disk).files (mounts_path root.now)) result }
+    ensures rooted { IfOk result (λ mounts. root_of mounts ≡ root.now) }
     ensures cause { HasCause (D.meaning.faults vault.old.disk) (D.meaning.faults vault.new.disk) (result ≡ Err StoreFault.Disk) }
 {
-    match vault.read(&own.mounts, MOST_MOUNTS_BYTES)? {
+    match mounts_file(vault, own)? {
         Got::Absent => Ok(Mounts::only(alloc, root)?),
         Got::Bytes(bytes) => mounts_of(alloc, &own.mounts, root, &bytes),
         Got::Long => Err(StoreFault::BadFile(own.mounts.copy(alloc)?, 0)),
@@ -70,6 +87,18 @@ fn is_there(got: &Got) -> bool
     ensures { MatchBool result (got.now ≢ Got.Absent) (got.now ≡ Got.Absent) }
 {
     !matches!(got, Got::Absent)
+}
+
+/// The pending file, of which no byte is read.
+fn pending_file<D: Disk>(vault: &mut Vault<D>, own: &Own) -> Result<Got, DiskFault>
+    ensures kept { IsSameVault vault.old vault.new }
+    ensures rests { D.meaning.tells → Rests (D.meaning.view vault.old.disk) (D.meaning.view vault.new.disk) }
+    ensures got { IfOk result (λ got. D.meaning.tells → Reads (without_service vault.old.root (D.meaning.view vault.old.disk).files own.now.pending) 0 got) }
+    ensures bound { IfOk result (IsWithin 0) }
+    ensures costs { Costs 1 (D.meaning.calls vault.old.disk) (D.meaning.calls vault.new.disk) (is_service vault.old.root own.now.pending ≡ false) }
+    ensures cause { HasCause (D.meaning.faults vault.old.disk) (D.meaning.faults vault.new.disk) (result ≡ Err DiskFault.Failed) }
+{
+    vault.read(&own.pending, 0)
 }
 
 /// Refuses where a pending file is there, since what it says is not read yet.
@@ -84,7 +113,7 @@ fn find_no_pending<D: Disk>(
     ensures pending { D.meaning.tells → TellsPending vault.old.root ((D.meaning.view vault.old.disk).files (pending_path vault.old.root)) result }
     ensures cause { HasCause (D.meaning.faults vault.old.disk) (D.meaning.faults vault.new.disk) (result ≡ Err StoreFault.Disk) }
 {
-    let got = vault.read(&own.pending, 0)?;
+    let got = pending_file(vault, own)?;
     if is_there(&got) {
         return Err(StoreFault::BadFile(own.pending.copy(alloc)?, 1));
     }
@@ -126,6 +155,7 @@ fn survey_all<D: Disk>(
     ensures kept { IsSameVault vault.old vault.new }
     ensures rests { D.meaning.tells → Rests (D.meaning.view vault.old.disk) (D.meaning.view vault.new.disk) }
     ensures opens { D.meaning.tells → OpensStore vault.old.root (D.meaning.view vault.old.disk).files result }
+    ensures limits { IfOk result (IsWithinLimits vault.old.root) }
     ensures cause { HasCause (D.meaning.faults vault.old.disk) (D.meaning.faults vault.new.disk) (result ≡ Err StoreFault.Disk) }
 {
     let mounts = read_mounts(alloc, vault, root, own)?;
@@ -155,6 +185,7 @@ pub fn find<D: Disk>(alloc: Global, vault: &mut Vault<D>) -> Result<Found, Store
     ensures kept { IsSameVault vault.old vault.new }
     ensures rests { D.meaning.tells → Rests (D.meaning.view vault.old.disk) (D.meaning.view vault.new.disk) }
     ensures opens { D.meaning.tells → OpensStore vault.old.root (D.meaning.view vault.old.disk).files result }
+    ensures limits { IfOk result (IsWithinLimits vault.old.root) }
     ensures cause { HasCause (D.meaning.faults vault.old.disk) (D.meaning.faults vault.new.disk) (result ≡ Err StoreFault.Disk) }
 {
     let root = vault.root().copy(alloc)?;

@@ -1,16 +1,18 @@
 //! The rules of a store, which the files of its folders tell.
 
-ghost use Rattle.std.specs.Prelude.{◌≡◌, ◌<◌, ◌≤◌, ◌+◌, length, OnOk, Err};
+ghost use Rattle.std.specs.Prelude.{◌≡◌, ◌<◌, ◌≤◌, ◌+◌, length, false, IfOk, OnOk, Err};
 ghost use Rattle.std.specs.FinMap as map;
-ghost use Rattle.gopass_base.specs.Faults.{HasCause};
+ghost use Rattle.gopass_base.specs.Faults.{Costs, HasCause};
 ghost use Rattle.disk_model.specs.Disk.{Rests};
+ghost use Rattle.disk_model.specs.Answers.{Reads, IsWithin};
 ghost use Rattle.pending_journal.specs.Opened.{IsSameVault};
+ghost use Rattle.pending_journal.specs.Service.{is_service, without_service};
 ghost use Rattle.gopass_base.specs.Order.{IsRising};
 ghost use Rattle.store_state.specs.RuleFiles.{AddsRule, ReadsRule, ReadsRules, TellsRule};
 
 use crate::fault::StoreFault;
 use crate::folder_file::folder_file;
-use disk_model::{Disk, Got};
+use disk_model::{Disk, DiskFault, Got};
 use mount_table::{FilePath, Folder, Mounts};
 use path_rules::Rules;
 use pending_journal::Vault;
@@ -31,6 +33,18 @@ fn rule_of(alloc: Global, path: &FilePath, bytes: &[u8]) -> Result<Recipients, S
     }
 }
 
+/// The rule file under the path, where it has at most 65,536 bytes.
+fn rule_file<D: Disk>(vault: &mut Vault<D>, path: &FilePath) -> Result<Got, DiskFault>
+    ensures kept { IsSameVault vault.old vault.new }
+    ensures rests { D.meaning.tells → Rests (D.meaning.view vault.old.disk) (D.meaning.view vault.new.disk) }
+    ensures got { IfOk result (λ got. D.meaning.tells → Reads (without_service vault.old.root (D.meaning.view vault.old.disk).files path.now) 65536 got) }
+    ensures bound { IfOk result (IsWithin 65536) }
+    ensures costs { Costs 1 (D.meaning.calls vault.old.disk) (D.meaning.calls vault.new.disk) (is_service vault.old.root path.now ≡ false) }
+    ensures cause { HasCause (D.meaning.faults vault.old.disk) (D.meaning.faults vault.new.disk) (result ≡ Err DiskFault.Failed) }
+{
+    vault.read(path, MOST_RULE_BYTES)
+}
+
 /// Reads the rule of the folder, where its file is there.
 fn read_rule<D: Disk>(
     alloc: Global,
@@ -44,7 +58,7 @@ fn read_rule<D: Disk>(
     ensures cause { HasCause (D.meaning.faults vault.old.disk) (D.meaning.faults vault.new.disk) (result ≡ Err StoreFault.Disk) }
 {
     let path = folder_file(alloc, mounts, folder, ".gpg-id")?;
-    match vault.read(&path, MOST_RULE_BYTES)? {
+    match rule_file(vault, &path)? {
         Got::Absent => Ok(None),
         Got::Bytes(bytes) => Ok(Some(rule_of(alloc, &path, &bytes)?)),
         Got::Long => Err(StoreFault::BadFile(path, 0)),

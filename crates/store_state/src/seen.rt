@@ -1,6 +1,6 @@
 //! What is found below the mounts of a store.
 
-ghost use Rattle.std.specs.Prelude.{◌≡◌, ◌<◌, [], length, OnOk, Err};
+ghost use Rattle.std.specs.Prelude.{◌≡◌, ◌<◌, ◌≤◌, [], length, All, IfOk, OnOk, Err};
 ghost use Rattle.gopass_base.specs.Faults.{HasCause};
 ghost use Rattle.mount_table.specs.Mounts.{row_at};
 ghost use Rattle.disk_model.specs.Disk.{Rests};
@@ -117,6 +117,7 @@ fn add_mount<D: Disk>(
     ensures rests { D.meaning.tells → Rests (D.meaning.view vault.old.disk) (D.meaning.view vault.new.disk) }
     ensures lists { D.meaning.tells → GivesOrFull (λ count. IsMountSeen vault.old.root (D.meaning.view vault.old.disk).files mounts.now row seen.old seen.new count)
         (IsFullTree vault.old.root (D.meaning.view vault.old.disk).files (row_at mounts.now row).dir) result }
+    ensures bound { IfOk result (λ count. count ≤ 40000) }
     ensures cause { HasCause (D.meaning.faults vault.old.disk) (D.meaning.faults vault.new.disk) (result ≡ Err StoreFault.Disk) }
 {
     let rows = mounts.rows();
@@ -137,6 +138,7 @@ pub(crate) fn survey<D: Disk>(
     ensures rests { D.meaning.tells → Rests (D.meaning.view vault.old.disk) (D.meaning.view vault.new.disk) }
     ensures lists { D.meaning.tells → GivesOrFull (λ found. IsSurvey vault.old.root (D.meaning.view vault.old.disk).files mounts.now found.0 found.1.items)
         (IsFullMount vault.old.root (D.meaning.view vault.old.disk).files mounts.now) result }
+    ensures bound { IfOk result (λ found. All (λ count. count ≤ 40000) found.1.items) }
     ensures cause { HasCause (D.meaning.faults vault.old.disk) (D.meaning.faults vault.new.disk) (result ≡ Err StoreFault.Disk) }
 {
     let mut seen = Seen::new(alloc);

@@ -106,23 +106,23 @@ fn files_that_refuse_the_opening(rt: HostRuntime) -> Result<(), Fail> {
         (&[secret], "none"),
         (
             &[bad],
-            "BadFile(FilePath { text: \"root/.gopass-mounts\" }, 2)",
+            "BadFile(FilePath { text: Utf8 { text: \"root/.gopass-mounts\" } }, 2)",
         ),
         (
             &[empty],
-            "BadFile(FilePath { text: \"root/.gopass-mounts\" }, 1)",
+            "BadFile(FilePath { text: Utf8 { text: \"root/.gopass-mounts\" } }, 1)",
         ),
         (
             &[over],
-            "BadFile(FilePath { text: \"root/.gopass-mounts\" }, 0)",
+            "BadFile(FilePath { text: Utf8 { text: \"root/.gopass-mounts\" } }, 0)",
         ),
         (
             &[pending],
-            "BadFile(FilePath { text: \"root/.gopass-pending\" }, 1)",
+            "BadFile(FilePath { text: Utf8 { text: \"root/.gopass-pending\" } }, 1)",
         ),
         (
             &[bad, pending],
-            "BadFile(FilePath { text: \"root/.gopass-mounts\" }, 2)",
+            "BadFile(FilePath { text: Utf8 { text: \"root/.gopass-mounts\" } }, 2)",
         ),
     ];
     for (files, told) in rows {

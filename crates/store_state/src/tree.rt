@@ -1,15 +1,17 @@
 //! The files below a mount's directory.
 
-ghost use Rattle.std.specs.Prelude.{◌≡◌, ◌≢◌, ◌<◌, ◌≤◌, length, IfOk, Err};
-ghost use Rattle.gopass_base.specs.Faults.{HasCause};
-ghost use Rattle.mount_table.specs.Paths.{path_in, service_text};
+ghost use Rattle.std.specs.Prelude.{◌≡◌, ◌≢◌, ◌<◌, ◌≤◌, length, ⊤, IfOk, IsFalse, Err};
+ghost use Rattle.gopass_base.specs.Faults.{Costs, HasCause};
+ghost use Rattle.gopass_base.specs.Paths.{path_in, service_text};
 ghost use Rattle.disk_model.specs.Disk.{Rests};
+ghost use Rattle.disk_model.specs.Listing.{Lists, IsShort};
 ghost use Rattle.pending_journal.specs.Opened.{IsSameVault};
+ghost use Rattle.pending_journal.specs.Service.{without_service};
 ghost use Rattle.store_state.specs.Tree.{IsFullTree, IsOwnOf, IsTree, others_than};
 ghost use Rattle.store_state.specs.Faults.{GivesOrFull};
 
 use crate::fault::{Limit, StoreFault};
-use disk_model::{Disk, Listed};
+use disk_model::{Disk, DiskFault, Listed};
 use gopass_base::NoMemory;
 use mount_table::{DirPath, FilePath, PathFault, ServiceFile};
 use pending_journal::Vault;
@@ -69,6 +71,19 @@ fn few(paths: Vec<FilePath>) -> Result<Vec<FilePath>, StoreFault>
     Ok(paths)
 }
 
+/// The paths of all files below the directory but the vault's own, where there are at most 40,002: of
+/// the store's own there are two. It is one call of the disk.
+fn all_below<D: Disk>(vault: &mut Vault<D>, dir: &FilePath) -> Result<Listed, DiskFault>
+    ensures kept { IsSameVault vault.old vault.new }
+    ensures rests { D.meaning.tells → Rests (D.meaning.view vault.old.disk) (D.meaning.view vault.new.disk) }
+    ensures listed { IfOk result (λ listed. D.meaning.tells → Lists (without_service vault.old.root (D.meaning.view vault.old.disk).files) dir.now 40002 listed) }
+    ensures bound { IfOk result (IsShort 40002) }
+    ensures costs { IsFalse vault.old.stuck → Costs 1 (D.meaning.calls vault.old.disk) (D.meaning.calls vault.new.disk) ⊤ }
+    ensures cause { HasCause (D.meaning.faults vault.old.disk) (D.meaning.faults vault.new.disk) (result ≡ Err DiskFault.Failed) }
+{
+    vault.list(dir, MOST_FILES + 2)
+}
+
 /// The paths of all files below the directory but the store's own, where there are at most 40,000.
 pub(crate) fn list_tree<D: Disk>(
     alloc: Global,
@@ -81,10 +96,11 @@ pub(crate) fn list_tree<D: Disk>(
     ensures rests { D.meaning.tells → Rests (D.meaning.view vault.old.disk) (D.meaning.view vault.new.disk) }
     ensures lists { D.meaning.tells → GivesOrFull (λ paths. IsTree vault.old.root (D.meaning.view vault.old.disk).files dir.now paths.items)
         (IsFullTree vault.old.root (D.meaning.view vault.old.disk).files dir.now) result }
+    ensures bound { IfOk result (λ paths. length paths.items ≤ 40000) }
     ensures cause { HasCause (D.meaning.faults vault.old.disk) (D.meaning.faults vault.new.disk) (result ≡ Err StoreFault.Disk) }
 {
     let path = path_of(alloc, dir)?;
-    match vault.list(&path, MOST_FILES + 2)? {
+    match all_below(vault, &path)? {
         Listed::All(paths) => few(not_own(own, paths)),
         Listed::Many => Err(StoreFault::Full(Limit::Files)),
     }

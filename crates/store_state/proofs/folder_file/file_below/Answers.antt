@@ -1,6 +1,6 @@
 use Rattle.std.proofs.Common.{◌≡◌, ap, sym, ◌∙◌, subst}
 use Rattle.gopass_base.specs.Text.{Text}
-use Rattle.mount_table.specs.Paths.{IsFilePath, path_in}
+use Rattle.gopass_base.specs.Paths.{IsFilePath, path_in}
 use Rattle.store_state.specs.Places.{folder_rest, in_folder}
 use Rattle.store_state.proofs.FolderPathLemmas.{folder_path_good}
 use Rattle.store_state.proofs.folder_file.file_below.Goals as goal

@@ -2,7 +2,7 @@ use Rattle.std.proofs.Common.{lit<, rules}
 use Rattle.std.proofs.lemmas.Iterator.Splits.{YieldsList-from_str_split}
 use Rattle.std.proofs.lemmas.Iterator.{cases_from_any}
 use borrow.Author.Tests.{tests}
-use Rattle.mount_table.specs.Names.{parts, IsHidden}
+use Rattle.gopass_base.specs.Parts.{parts, IsHidden}
 use Rattle.store_state.proofs.KindLemmas.{some_is}
 use Rattle.store_state.proofs.kind.has_hidden_part.Goals as goal
 

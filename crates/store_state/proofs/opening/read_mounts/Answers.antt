@@ -13,6 +13,6 @@ returns-in_ok-only-in-Absent-clause-mounts g c told =
     let files = (g.D.Disk.meaning.view c.args.vault.now.disk).files in
     let start = c.args.vault.now.root in
     let root = c.args.root.now in
-    let read = subst (λ (x : Got). Reads (without_service start files c.args.own.now.mounts) 131072 x) c.in-Absent.is (c.in_ok-read.ensures.got told) in
+    let read = subst (λ (x : Got). Reads (without_service start files c.args.own.now.mounts) 131072 x) c.in-Absent.is (c.in_ok-mounts_file.ensures.got told) in
     let none : files (mounts_path root) ≡ None = ap (λ (r : Text). files (mounts_path r)) c.requires.root ∙ (sym (mounts_shown start files) ∙ (ap (without_service start files) (sym c.requires.own.mounts_is) ∙ read)) in
     subst (λ (file : Option Text). AreMounts root file c.in_ok-only-in-Absent.field-0) (sym none) c.in_ok-only-in-Absent.ensures

@@ -1,5 +1,6 @@
-use Rattle.std.proofs.Common.{rules, Global, Vec, ◌≡◌, ◌+◌, ◌<◌, ℕ, length, ap, ◌∙◌, subst, refl, arith}
+use Rattle.std.proofs.Common.{rules, Global, Vec, ◌≡◌, ◌+◌, ◌<◌, ◌≤◌, ℕ, List, [], ◌∷◌, All, length, ap, ◌∙◌, sym, subst, refl, arith}
 use Rattle.std.proofs.lemmas.List.{length_push}
+use Rattle.std.proofs.lemmas.List.Elements.{All-nil, All-cons, All-append}
 use Rattle.std.proofs.lemmas.Result.{err_from_is_err_and}
 use Rattle.gopass_base.specs.Text.{Text}
 use Rattle.disk_model.specs.Files.{Files}
@@ -25,6 +26,8 @@ loop-row-preserved g c =
       kept = kept_then start before now was.kept c.in_ok-add_mount.ensures.kept;
       stays = search rules;
       counted = ap length c.in_ok-push.ensures.items ∙ (length_push c.loop-row.counts.items count ∙ ap (λ n. n + 1) was.counted);
+      few = subst (λ (counts : List ℕ). All (λ (n : ℕ). n ≤ 40000) counts) (sym c.in_ok-push.ensures.items)
+          (All-append (λ (n : ℕ). n ≤ 40000) c.loop-row.counts.items (count ∷ []) was.few (All-cons (λ (n : ℕ). n ≤ 40000) count [] c.in_ok-add_mount.ensures.bound (All-nil (λ (n : ℕ). n ≤ 40000))));
       told = λ told. (let so_far = was.told told in
           let files = (disk.view start.disk).files in
           let mount = subst (λ (root : Text). IsMountSeen root files mounts row c.loop-row.seen c.add_mount.new.seen count) was.kept.root

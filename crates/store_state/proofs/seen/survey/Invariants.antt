@@ -1,4 +1,4 @@
-use Rattle.std.proofs.Common.{◌≡◌, ℕ, ◌<◌, length, get_or}
+use Rattle.std.proofs.Common.{◌≡◌, ℕ, ◌<◌, ◌≤◌, All, length, get_or}
 use Rattle.disk_model.specs.Disk.{Rests}
 use Rattle.pending_journal.specs.Opened.{IsSameVault}
 use Rattle.store_state.specs.Survey.{IsSeen, IsCountOf}
@@ -12,5 +12,6 @@ invariant-loop-row g l =
       kept : IsSameVault l.fn.vault l.vault;
       stays : disk.faults l.vault.disk ≡ disk.faults l.fn.vault.disk;
       counted : length l.counts.items ≡ l.row;
+      few : All (λ (n : ℕ). n ≤ 40000) l.counts.items;
       told : disk.tells → Rests (disk.view l.fn.vault.disk) (disk.view l.vault.disk) × IsSeen l.fn.vault.root files l.mounts l.row l.seen × ((k : ℕ) → k < l.row → IsCountOf l.fn.vault.root files l.mounts k (get_or l.counts.items k 0));
     }

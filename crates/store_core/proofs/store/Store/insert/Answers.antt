@@ -15,13 +15,15 @@ use Rattle.store_state.specs.Opening.{IsFound}
 use Rattle.store_state.specs.Places.{secret_path}
 use Rattle.store_state.specs.State.{Sealed}
 use Rattle.store_core.specs.Insert.{has_secret}
-use Rattle.store_core.specs.Inserting.{refusal_by_commit, SealsBody, limit_by}
+use Rattle.store_core.specs.Inserting.{SealsBody, limit_by}
 use Rattle.store_state.proofs.AgreeLemmas.{mounts_agree, table_agrees}
 use Rattle.store_core.proofs.PerformLemmas.{Still, still_same}
-use Rattle.store_core.proofs.InsertLemmas.{insert_no_memory_then, insert_done, insert_broken, never_stuck}
-use Rattle.store_core.proofs.InsertFacts.{ids_are, way_is, limit_is, insert_unruled, insert_tested, insert_unsealed, change_puts, secret_file, sizes_inserted, taken_is_found, commit_keeps}
+use Rattle.store_core.proofs.InsertLemmas.{insert_no_memory_then, insert_done, insert_broken}
+use Rattle.store_core.proofs.InsertFacts.{ids_are, way_is, limit_is, insert_unruled, insert_tested, insert_unsealed, change_puts, secret_file, sizes_inserted, taken_is_found, commit_keeps, mounts_stay}
 use Rattle.store_core.proofs.RoomLemmas.{room_by}
 use Rattle.store_core.proofs.ElsewhereLemmas.{put_elsewhere, rest_elsewhere}
+use Rattle.store_core.specs.declared.refusal.Refusal.TheVariants.{NoMemory}
+use Rattle.store_core.proofs.KeepsLemmas.{tool_keeps}
 use Rattle.store_core.proofs.store.Store.insert.Goals as goal
 
 pub returns-in_err-ids-clause-planned : goal.returns-in_err-ids-clause-planned
@@ -71,7 +73,7 @@ returns-in_err-sealed-clause-planned g c told tells ring have start s =
     let fresh = way_is opens root files self.found start is s name body c.args.force _ tested ∙ tested.may.0 in
     let room = limit_is opens root files self.found start is s name body c.args.force _ tested ∙ tested.may.1 in
     let p = err_from_is_err_and c.from_residual-in_err-sealed.result c.from_residual-in_err-sealed.ensures.1 in
-    rw (p.1, p.2) (insert_unsealed opens root ring name body c.args.force start old new s still c.in_ok-ids.ids ruled fresh room (omega (arith, c.seal_body.ensures.calls))
+    rw (p.1, p.2) (insert_unsealed opens root ring name body c.args.force start old new s still c.in_ok-ids.ids ruled fresh room (omega (arith, c.seal_body.ensures.once))
     c.in_err-sealed.field-0.0 (subst (λ (r : Ring). SealsBody {A = Global} opens r c.in_ok-ids.ids name body (Err c.in_err-sealed.field-0.0)) have (c.in_err-sealed.ensures.seals tells))
     (λ other e. c.in_err-sealed.ensures.cause.failed (other, search rules)))
 
@@ -94,7 +96,7 @@ returns-in_err-grown-clause-planned g c told tells ring have start s =
     let fresh = way_is opens root files self.found start is s name body c.args.force _ tested ∙ tested.may.0 in
     let room = limit_is opens root files self.found start is s name body c.args.force _ tested ∙ tested.may.1 in
     let p = err_from_is_err_and c.from_residual-in_err-grown.result c.from_residual-in_err-grown.ensures.1 in
-    rw (p.1, p.2) (insert_no_memory_then opens root ring name body c.args.force start old mid s still ids ruled fresh room (omega (arith, c.seal_body.ensures.calls)))
+    rw (p.1, p.2) (insert_no_memory_then opens root ring name body c.args.force start old mid s still ids ruled fresh room (omega (arith, c.seal_body.ensures.once)))
 
 pub returns-in_err-change-clause-planned : goal.returns-in_err-change-clause-planned
 returns-in_err-change-clause-planned g c told tells ring have start s =
@@ -115,10 +117,10 @@ returns-in_err-change-clause-planned g c told tells ring have start s =
     let fresh = way_is opens root files self.found start is s name body c.args.force _ tested ∙ tested.may.0 in
     let room = limit_is opens root files self.found start is s name body c.args.force _ tested ∙ tested.may.1 in
     let p = err_from_is_err_and c.from_residual-in_err-change.result c.from_residual-in_err-change.ensures.1 in
-    rw (p.1, p.2) (insert_no_memory_then opens root ring name body c.args.force start old mid s still ids ruled fresh room (omega (arith, c.seal_body.ensures.calls)))
+    rw (p.1, p.2) (insert_no_memory_then opens root ring name body c.args.force start old mid s still ids ruled fresh room (omega (arith, c.seal_body.ensures.once)))
 
-pub returns-in_err-commit-clause-planned : goal.returns-in_err-commit-clause-planned
-returns-in_err-commit-clause-planned g c told tells ring have start s =
+pub returns-in-Err-clause-planned : goal.returns-in-Err-clause-planned
+returns-in-Err-clause-planned g c told tells ring have start s =
     let self = c.args.self.now in
     let root = self.vault.root in
     let name = c.args.name.now in
@@ -154,30 +156,29 @@ returns-in_err-commit-clause-planned g c told tells ring have start s =
       commits = c.commit.new.self.commits;
       stuck = c.commit.new.self.stuck;
     } in
-    let fault = c.in_err-commit.field-0.0 in
-    let p = err_from_is_err_and c.from_residual-in_err-commit.result c.from_residual-in_err-commit.ensures.1 in
-    rw (p.1) (insert_broken opens root ring name body c.args.force start old mid new s still table put_is.good ids ruled fresh room seals.1 sealed seals.0 after after_is sizes run
-    fault p.0 (never_stuck c.commit.result fault self.vault.stuck c.in_err-commit.was c.commit.ensures.was_stuck c.requires.free)
-    (λ e. p.2 ∙ ap refusal_by_commit e) (λ e. p.2 ∙ ap refusal_by_commit e) (λ e. c.commit.ensures.cause.failed (c.in_err-commit.was ∙ ap Err e))
-    c.in_err-commit.ensures.uncounted (c.commit.ensures.is_stuck ∙ ap is_err c.in_err-commit.was) c.seal_body.ensures.cause.later (omega (arith, c.seal_body.ensures.calls)))
+    insert_broken opens root ring name body c.args.force start old mid new s still table put_is.good ids ruled fresh room seals.1 sealed seals.0 after after_is sizes run
+    c.in-Err.fault c.refusal_by_commit.result c.refusal_by_commit.ensures (λ e. c.commit.ensures.cause.failed (c.in-Err.is ∙ ap Err e))
+    c.in-Err.ensures.uncounted (c.commit.ensures.is_stuck ∙ ap is_err c.in-Err.is) c.seal_body.ensures.cause.later (omega (arith, c.seal_body.ensures.once))
 
 pub returns-in_err-sealed-clause-keeps : goal.returns-in_err-sealed-clause-keeps
 returns-in_err-sealed-clause-keeps g c =
-    let p = err_from_is_err_and c.from_residual-in_err-sealed.result c.from_residual-in_err-sealed.ensures.1 in
-    rw (p.1, p.2) (search rules)
-
-pub returns-in_err-commit-clause-keeps : goal.returns-in_err-commit-clause-keeps
-returns-in_err-commit-clause-keeps g c =
     let self = c.args.self.now in
-    let fault = c.in_err-commit.field-0.0 in
-    let p = err_from_is_err_and c.from_residual-in_err-commit.result c.from_residual-in_err-commit.ensures.1 in
-    rw (p.1) (commit_keeps self (record { vault = c.commit.new.self; found = self.found; agrees = c.in_err-commit.self-1-own.given.0 }) (one_tool g.C.Cipher.meaning c.args.tool.now) (one_tool g.C.Cipher.meaning c.seal_body.new.tool)
-    c.args.name.now fault p.0 p.2 (never_stuck c.commit.result fault self.vault.stuck c.in_err-commit.was c.commit.ensures.was_stuck c.requires.free)
-    c.commit.ensures.cause.later (c.in_ok-sealed.ensures.stays (λ other e. absurd (cc)) (λ e. absurd (cc))) (λ e. c.commit.ensures.cause.failed (c.in_err-commit.was ∙ ap Err e)) (omega (arith, c.seal_body.ensures.calls)) c.commit.ensures.root
-    (λ ring have. c.seal_body.ensures.ring ∙ have))
+    let p = err_from_is_err_and c.from_residual-in_err-sealed.result c.from_residual-in_err-sealed.ensures.1 in
+    rw (p.1, p.2) (tool_keeps {T = Unit {0}} self self (one_tool g.C.Cipher.meaning c.args.tool.now) (one_tool g.C.Cipher.meaning c.seal_body.new.tool) c.args.name.now (λ done. []) (Err c.in_err-sealed.field-0.0)
+    (record { later = c.seal_body.ensures.cause.later; failed = λ (n, e). c.in_err-sealed.ensures.cause.failed (n, search rules); stays = λ other. c.in_err-sealed.ensures.cause.stays (λ (n, e). other (n, search rules)) })
+    (λ e. c.in_err-sealed.ensures.no_disk (search rules)) refl (omega (arith, c.seal_body.ensures.once)) c.requires.free refl (λ ring have. c.seal_body.ensures.ring ∙ have))
 
-pub invariant_of-self-2 : goal.invariant_of-self-2
-invariant_of-self-2 g c =
+pub returns-in-Err-clause-keeps : goal.returns-in-Err-clause-keeps
+returns-in-Err-clause-keeps g c =
+    let self = c.args.self.now in
+    commit_keeps self _ (one_tool g.C.Cipher.meaning c.args.tool.now) (one_tool g.C.Cipher.meaning c.seal_body.new.tool)
+    c.args.name.now c.in-Err.fault c.refusal_by_commit.result c.refusal_by_commit.ensures
+    (record { later = c.commit.ensures.cause.later; failed = λ e. c.commit.ensures.cause.failed (c.in-Err.is ∙ ap Err e); stays = λ other. c.commit.ensures.cause.stays (λ e. other (search rules)); once = c.commit.ensures.cause.once })
+    (c.in_ok-sealed.ensures.cause.stays (λ (n, e). cc)) (omega (arith, c.seal_body.ensures.once)) c.commit.ensures.root
+    (λ ring have. c.seal_body.ensures.ring ∙ have)
+
+pub invariant_of-self : goal.invariant_of-self
+invariant_of-self g c =
     let self = c.args.self.now in
     let root = self.vault.root in
     let name = c.args.name.now in
@@ -189,8 +190,9 @@ invariant_of-self-2 g c =
     let path : put_is.path ≡ secret_path self.found.mounts name = secret_file (root_of self.found.mounts) self.found.mounts name put_is.path put_is.table put_is.file in
     let after_is : after ≡ put files (secret_path self.found.mounts name) (Some sealed) = change_puts change files put_is.path sealed put_is.puts put_is.drops ∙ ap (λ q. put files q (Some sealed)) path in
     record {
+      rooted = ap root_of (mounts_stay self.found c.in_ok-grown.grown c.take_over.new.found c.take_over.ensures) ∙ (self.rooted ∙ sym c.commit.ensures.root);
       agrees = λ free told.
-          let stands = c.in_ok-commit.ensures.made told in
+          let stands = c.in-Ok.ensures.made told in
           let here = taken_is_found root files after self.found name c.args.body.now sealed c.args.force (self.agrees c.requires.free told) put_is.good after_is _ c.in_ok-test.ensures.tested
           c.in_ok-grown.grown c.take_over.new.found c.in_ok-grown.ensures c.take_over.ensures in
           let by_files = subst (λ (f : Files). ∥ IsFound root f c.take_over.new.found ∥₁) (sym stands.files) here in
@@ -235,7 +237,7 @@ returns-clause-planned g c told tells ring have start s =
       stuck = c.commit.new.self.stuck;
     } in
     insert_done opens root ring name body c.args.force start old mid new s still table put_is.good ids ruled fresh room seals.1 sealed seals.0 after after_is sizes run
-    (c.in_ok-commit.ensures.made told) c.in_ok-commit.ensures.counted c.seal_body.ensures.cause.later (omega (arith, c.seal_body.ensures.calls))
+    (c.in-Ok.ensures.made told) c.in-Ok.ensures.counted c.seal_body.ensures.cause.later (omega (arith, c.seal_body.ensures.once))
 
 pub returns-in_err-ids-clause-elsewhere : goal.returns-in_err-ids-clause-elsewhere
 returns-in_err-ids-clause-elsewhere g c told =
@@ -262,8 +264,8 @@ returns-in_err-change-clause-elsewhere g c told =
     let self = c.args.self.now in
     rest_elsewhere self.vault.root (secret_path self.found.mounts c.args.name.now ∷ []) (g.D.Disk.meaning.view self.vault.disk) (self.vault.at_rest c.requires.free told)
 
-pub returns-in_err-commit-clause-elsewhere : goal.returns-in_err-commit-clause-elsewhere
-returns-in_err-commit-clause-elsewhere g c told =
+pub returns-in-Err-clause-elsewhere : goal.returns-in-Err-clause-elsewhere
+returns-in-Err-clause-elsewhere g c told =
     let self = c.args.self.now in
     let root = self.vault.root in
     let name = c.args.name.now in
@@ -287,3 +289,11 @@ returns-clause-elsewhere g c told =
     let path : put_is.path ≡ secret_path self.found.mounts name = secret_file (root_of self.found.mounts) self.found.mounts name put_is.path put_is.table put_is.file in
     let after_is : changed change old.files ≡ put old.files (secret_path self.found.mounts name) (Some sealed) = change_puts change old.files put_is.path sealed put_is.puts put_is.drops ∙ ap (λ q. put old.files q (Some sealed)) path in
     put_elsewhere root (secret_path self.found.mounts name) sealed old (g.D.Disk.meaning.view c.commit.new.self.disk) (changed change old.files) after_is (c.commit.ensures.any_moment c.requires.free told)
+
+pub returns-in_err-change-clause-keeps : goal.returns-in_err-change-clause-keeps
+returns-in_err-change-clause-keeps g c =
+    let self = c.args.self.now in
+    let p = err_from_is_err_and c.from_residual-in_err-change.result c.from_residual-in_err-change.ensures.1 in
+    rw (p.1, p.2) (tool_keeps {T = Unit {0}} self self (one_tool g.C.Cipher.meaning c.args.tool.now) (one_tool g.C.Cipher.meaning c.seal_body.new.tool) c.args.name.now (λ done. []) (Err NoMemory)
+    (record { later = c.seal_body.ensures.cause.later; failed = λ (n, e). cc; stays = λ other. c.in_ok-sealed.ensures.cause.stays (λ (n, e). cc) })
+    (λ e. cc) refl (omega (arith, c.seal_body.ensures.once)) c.requires.free refl (λ ring have. c.seal_body.ensures.ring ∙ have))

@@ -12,18 +12,19 @@ use Rattle.store_core.specs.declared.refusal.Refusal.{Refusal}
 use Rattle.store_state.proofs.AgreeLemmas.{keys_agree, among_keys}
 use Rattle.store_core.proofs.PerformLemmas.{Still, still_same}
 use Rattle.store_core.proofs.ShowLemmas.{show_missing, show_no_memory, show_fault, show_given, named, file_there, vault_file, not_sealed_shows, not_sealed_no_tool}
+use Rattle.store_core.proofs.KeepsLemmas.{tool_keeps}
 use Rattle.store_core.proofs.store.Store.show.Goals as goal
 
-pub returns-then-not-is_among-clause-planned : goal.returns-then-not-is_among-clause-planned
-returns-then-not-is_among-clause-planned g c told tells ring have start s =
+pub returns-then-not-has_name-clause-planned : goal.returns-then-not-has_name-clause-planned
+returns-then-not-has_name-clause-planned g c told tells ring have start s =
     let self = c.args.self.now in
     let files = (g.D.Disk.meaning.view self.vault.disk).files in
     let opens = g.C.Cipher.meaning.opens in
     let now = moment_of self (one_tool g.C.Cipher.meaning c.args.tool.now) in
     let keys = keys_agree opens self.vault.root files self.found start (self.agrees c.requires.free told) s in
-    let among = among_keys start.rows c.names.result.now c.args.name.now c.is_among.result (keys ∙ sym c.names.ensures) c.is_among.ensures in
-    let out : c.is_among.result ≡ false = search rules in
-    let same : c.why_missing.result ≡ why_missing c.args.name.now (names_of start) = c.why_missing.ensures ∙ ap (why_missing c.args.name.now) (c.names-then-not-is_among.ensures ∙ sym keys) in
+    let among = among_keys start.rows c.names.result.now c.args.name.now c.has_name.result (keys ∙ sym c.names.ensures) c.has_name.ensures in
+    let out : c.has_name.result ≡ false = search rules in
+    let same : c.why_missing.result ≡ why_missing c.args.name.now (names_of start) = c.why_missing.ensures ∙ ap (why_missing c.args.name.now) (c.names-then-not-has_name.ensures ∙ sym keys) in
     subst (λ (r : Refusal). Performs opens self.vault.root (plan_show ring c.args.name.now start) start now now (refusal_said c.args.name.now r)) (sym same)
     (show_missing opens self.vault.root ring c.args.name.now start now now s (still_same self.vault.root now (self.vault.at_rest c.requires.free told)) (λ has. (let t : true ≡ false = sym (among.1 has) ∙ out in cc)) (omega arith))
 
@@ -55,14 +56,14 @@ returns-in-Some-clause-planned g c told tells ring have start s =
     let new = moment_of c.read_at.new.self (one_tool g.C.Cipher.meaning c.unseal.new.tool) in
     let still : Still self.vault.root old new = record { at_rest = self.vault.at_rest c.requires.free told; rests = c.read_at.ensures.rests told; commits = c.read_at.ensures.same.vault.commits; tools_later = c.unseal.ensures.cause.later } in
     let agrees = self.agrees c.requires.free told in
-    let among = among_keys start.rows c.names.result.now name c.is_among.result (keys_agree opens root files self.found start agrees s ∙ sym c.names.ensures) c.is_among.ensures in
-    let there : c.is_among.result ≡ true = search rules in
+    let among = among_keys start.rows c.names.result.now name c.has_name.result (keys_agree opens root files self.found start agrees s ∙ sym c.names.ensures) c.has_name.ensures in
+    let there : c.has_name.result ≡ true = search rules in
     let good = named opens root ring name start old new s still (among.0 there) in
     let read : ReadsAt root files c.in_ok-path.path (Some c.in-Some.sealed) = subst (λ (x : Option (Vec ℕ Global)). ReadsAt root files c.in_ok-path.path x) c.in-Some.is (c.in_ok-sealed.ensures.read told) in
     let file = sym (vault_file opens root files self.found start agrees s name c.mounts.result.now c.in_ok-path.path c.mounts.ensures c.in_ok-path.ensures.table good c.in_ok-path.ensures.file) ∙ read.0 in
     let shows : Shows name (opens c.in-Some.sealed.items) (g.C.Cipher.meaning.ring c.args.tool.now) c.unseal.result = subst (λ (bytes : Text). Shows name (opens bytes) (g.C.Cipher.meaning.ring c.args.tool.now) c.unseal.result) c.deref.ensures.value (c.unseal.ensures.shows tells) in
     show_given opens root ring name start old new s still good c.in-Some.sealed.items file c.unseal.result (subst (λ (r : Ring). Shows name (opens c.in-Some.sealed.items) r c.unseal.result) have shows)
-    (λ other is. c.unseal.ensures.cause.failed (other, is)) (omega (arith, c.unseal.ensures.calls))
+    (λ other is. c.unseal.ensures.cause.failed (other, is)) (omega (arith, c.unseal.ensures.once))
 
 pub returns-clause-planned : goal.returns-clause-planned
 returns-clause-planned g c told tells ring have start s =
@@ -75,12 +76,16 @@ returns-clause-planned g c told tells ring have start s =
     let new = moment_of c.read_at.new.self (one_tool g.C.Cipher.meaning c.args.tool.now) in
     let still : Still self.vault.root old new = record { at_rest = self.vault.at_rest c.requires.free told; rests = c.read_at.ensures.rests told; commits = c.read_at.ensures.same.vault.commits; tools_later = omega arith } in
     let agrees = self.agrees c.requires.free told in
-    let among = among_keys start.rows c.names.result.now name c.is_among.result (keys_agree opens root files self.found start agrees s ∙ sym c.names.ensures) c.is_among.ensures in
-    let there : c.is_among.result ≡ true = search rules in
+    let among = among_keys start.rows c.names.result.now name c.has_name.result (keys_agree opens root files self.found start agrees s ∙ sym c.names.ensures) c.has_name.ensures in
+    let there : c.has_name.result ≡ true = search rules in
     let good = named opens root ring name start old new s still (among.0 there) in
     let (bytes, file) = file_there opens root ring name start old new s still good (among.0 there) in
     let read : ReadsAt {A = Global} root files c.in_ok-path.path None = subst (λ (x : Option (Vec ℕ Global)). ReadsAt root files c.in_ok-path.path x) c.in-None.is (c.in_ok-sealed.ensures.read told) in
     let long = read bytes (vault_file opens root files self.found start agrees s name c.mounts.result.now c.in_ok-path.path c.mounts.ensures c.in_ok-path.ensures.table good c.in_ok-path.ensures.file ∙ file) in
-    show_given opens root ring name start old new s still good bytes file (Err c.refusal_by.result)
-    (not_sealed_shows name ring c.refusal_by.result c.refusal_by.ensures (opens bytes) ((g.met.C.Cipher.limits bytes tells).long long))
-    (λ other is. absurd (not_sealed_no_tool name c.refusal_by.result c.refusal_by.ensures other is)) (omega arith)
+    show_given opens root ring name start old new s still good bytes file (Err c.not_sealed.result)
+    (not_sealed_shows name ring c.not_sealed.result c.not_sealed.ensures (opens bytes) ((g.met.C.Cipher.limits bytes tells).long long))
+    (λ other is. absurd (not_sealed_no_tool name c.not_sealed.result c.not_sealed.ensures other is)) (omega arith)
+
+pub returns-in-Some-clause-keeps : goal.returns-in-Some-clause-keeps
+returns-in-Some-clause-keeps g c = tool_keeps c.args.self.now c.read_at.new.self (one_tool g.C.Cipher.meaning c.args.tool.now) (one_tool g.C.Cipher.meaning c.unseal.new.tool) c.args.name.now (λ (body : Vec ℕ Global). body.items) c.unseal.result
+    (record { later = c.unseal.ensures.cause.later; failed = c.unseal.ensures.cause.failed; stays = c.unseal.ensures.cause.stays }) c.unseal.ensures.no_disk (c.in_ok-sealed.ensures.cause.stays (λ e. cc)) c.unseal.ensures.once (search rules) c.read_at.ensures.same.vault.root (λ ring have. c.unseal.ensures.ring ∙ have)
