@@ -6,6 +6,7 @@ mod stream;
 
 use gopass_cli::{Ended, gopass};
 use std::alloc::AllocError;
+use std::io::ErrorKind;
 use std::process::ExitCode;
 use std::{env, io};
 use store::{disk, root, tool};
@@ -40,16 +41,23 @@ fn run(rt: &HostRuntime, words: &[String]) -> Result<u8, AllocError> {
     Ok(status)
 }
 
+/// Says on standard error why no run was begun, and answers the status.
+fn refuse(rt: &HostRuntime, why: &str, status: u8) -> ExitCode {
+    let _ = eprintln!(rt; "gopass: {why}");
+    ExitCode::from(status)
+}
+
+/// Where a word is not UTF-8 the words are bad from the first on.
 fn main(rt: HostRuntime) -> ExitCode {
-    let ran = match words(&rt) {
-        Ok(words) => run(&rt, &words),
-        Err(_) => Err(AllocError),
-    };
-    match ran {
-        Ok(status) => ExitCode::from(status),
-        Err(_) => {
-            let _ = eprintln!(rt; "gopass: out of memory");
-            ExitCode::from(14)
+    let words = match words(&rt) {
+        Ok(words) => words,
+        Err(fault) if fault.kind() == ErrorKind::InvalidData => {
+            return refuse(&rt, "bad words at 0", 2);
         }
+        Err(_) => return refuse(&rt, "out of memory", 14),
+    };
+    match run(&rt, &words) {
+        Ok(status) => ExitCode::from(status),
+        Err(_) => refuse(&rt, "out of memory", 14),
     }
 }

@@ -37,17 +37,17 @@ module _ (S : Events → Said → Type 0) (old new : Faults) (later : old.tools 
   -- this is meant where nothing failed
   pub runs_meant : (wanted said : Said) → S calm wanted → Says wanted said → SaidInRun S old new said
   runs_meant wanted said h (inl e) = record { events = calm; stop = None; tied = calm_tied old new later; says = subst (S calm) (sym e) h }
-  runs_meant wanted said h (inr e) = runs_unsaid said e
+  runs_meant wanted said h (inr (own, e)) = runs_unsaid said e
 
   -- there was no memory at all
   pub runs_no_memory : (said : Said) → Says unsaid said → SaidInRun S old new said
   runs_no_memory said (inl e) = runs_unsaid said e
-  runs_no_memory said (inr e) = runs_unsaid said e
+  runs_no_memory said (inr (own, e)) = runs_unsaid said e
 
   -- the disk failed
   pub runs_disk : (said : Said) → Rose old.disk new.disk → Says (stop_said TheDisk) said → SaidInRun S old new said
   runs_disk said rose (inl e) = record { events = calm; stop = Some (record { cause = TheDisk; commits = 0 }); tied = stopped_tied old new TheDisk later (λ e. rose); says = e }
-  runs_disk said rose (inr e) = runs_unsaid said e
+  runs_disk said rose (inr (own, e)) = runs_unsaid said e
 
 up_weaker : (stop : Option Stop) (P Q : Type 0) (said : Said) → (P → Q) → UpTo stop P said → UpTo stop Q said
 up_weaker None P Q said so h = so h
@@ -126,7 +126,7 @@ runs_vault opens root files input same ring command old new VaultNoMemory said l
 says_of_input : (command : Command) (input : Input) (fault : BodyFault) → IsNoBody command input fault → (fault ≡ NoBodyRoom → ⊥) → SaysOfInput command input (body_said fault)
 says_of_input (commands.Insert name force multi) input Missing why other = inl (why, refl)
 says_of_input (commands.Insert name force multi) input Long why other = inr (inl (why, refl))
-says_of_input (commands.Insert name force multi) input Failed why other = inr (inr (why, refl))
+says_of_input (commands.Insert name force multi) input Failed why other = inr (inr (why.0, why.1, refl))
 says_of_input (commands.Insert name force multi) input NoBodyRoom why other = absurd (other refl)
 says_of_input (commands.Show name) input fault why other = why
 says_of_input (commands.Ls folder flat) input fault why other = why

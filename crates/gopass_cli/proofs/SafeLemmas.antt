@@ -74,7 +74,7 @@ says_16 = (4, omega arith, refl)
 -- what is said, or want of memory
 pub tells_said : (wanted said : Said) → BeginsNone wanted.status → Says wanted said → BeginsNone said.status
 tells_said wanted said tells (inl is) = subst (λ (s : Said). BeginsNone s.status) (sym is) tells
-tells_said wanted said tells (inr is) = subst (λ (s : Said). BeginsNone s.status) (sym is) says_14
+tells_said wanted said tells (inr (own, is)) = subst (λ (s : Said). BeginsNone s.status) (sym is) says_14
 
 pub tells_words : (said wanted : Said) → wanted.status ≡ 2 → Says wanted said → BeginsNone said.status
 tells_words said wanted is says = tells_said wanted said (subst BeginsNone (sym is) says_2) says

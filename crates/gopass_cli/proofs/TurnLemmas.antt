@@ -47,7 +47,7 @@ lifts opens root plan start old new said a b A B c d C D more least calls few p 
 -- this is said, or the command wanted memory behind it
 pub performs_says : (opens : Opens) (root : Text) (plan : Events → Plan) (start : State) (old new : Moment) (wanted said : Said) → Performs opens root plan start old new wanted → Says wanted said → Performs opens root plan start old new said
 performs_says opens root plan start old new wanted said p (inl e) = subst (Performs opens root plan start old new) (sym e) p
-performs_says opens root plan start old new wanted said p (inr e) = subst (Performs opens root plan start old new) (sym e) (wants_memory opens root start plan old new wanted p)
+performs_says opens root plan start old new wanted said p (inr (own, e)) = subst (Performs opens root plan start old new) (sym e) (wants_memory opens root start plan old new wanted p)
 
 module _ (opens : Opens) (root : Text) (plan : Events → Plan) (start : State) (now : Moment) (stands : StandsFor opens root now.view.files start) (rest : IsAtRest root now.view) where
   -- there was no memory at the start
@@ -98,12 +98,12 @@ module _ {D C : Type 0} {G : Ghosts D} (meaning : ToolMeaning C) (old new : Stor
   pub lifts_keeps : (most status : ℕ) → Keeps most old new (one_tool meaning tool) (one_tool meaning now) status → Keeps most old new (all_tools meaning tools) (all_tools meaning (set tools 0 now)) status
   lifts_keeps most status k = record {
     causes = record {
-      disk_later = k.causes.disk_later;
-      tools_later = omega (arith, sum_moves meaning.faults, sum_has meaning.faults, k.causes.tools_later);
-      tool = λ e. (let rose = k.causes.tool e in omega (arith, sum_moves meaning.faults, sum_has meaning.faults, rose));
+      tools = record {
+        later = omega (arith, sum_moves meaning.faults, sum_has meaning.faults, k.causes.tools.later);
+        failed = λ e. (let rose = k.causes.tools.failed e in omega (arith, sum_moves meaning.faults, sum_has meaning.faults, rose));
+        stays = λ other. (let same = k.causes.tools.stays other in omega (arith, sum_moves meaning.faults, sum_has meaning.faults, same));
+      };
       disk = k.causes.disk;
-      tools_stay = λ other memory. (let same = k.causes.tools_stay other memory in omega (arith, sum_moves meaning.faults, sum_has meaning.faults, same));
-      disk_stays = k.causes.disk_stays;
       no_sink = k.causes.no_sink;
     };
     calls = omega (arith, sum_moves meaning.calls, sum_has meaning.calls, k.calls);
@@ -113,17 +113,22 @@ module _ {D C : Type 0} {G : Ghosts D} (meaning : ToolMeaning C) (old new : Stor
     rings = λ ring have. All-set (λ t. meaning.ring t ≡ ring) tools 0 now (k.rings ring (ap meaning.ring first ∙ have 0 tool some)) have;
   }
 
--- what holds of an answer holds of want of memory in its place
+-- what holds of an answer that tells no fault holds of want of memory in its place
 pub keeps_says : {D : Type 0} {G : Ghosts D} (most : ℕ) (old new : Store D G) (before after : Tools) (wanted said : Said) → Keeps most old new before after wanted.status → Says wanted said → Keeps most old new before after said.status
 keeps_says most old new before after wanted said k (inl e) = subst (λ (s : Said). Keeps most old new before after s.status) (sym e) k
-keeps_says most old new before after wanted said k (inr e) = record {
+keeps_says most old new before after wanted said k (inr (own, e)) = record {
   causes = record {
-    disk_later = k.causes.disk_later;
-    tools_later = k.causes.tools_later;
-    tool = λ is. absurd (differs 11 (sym is ∙ ap (λ (s : Said). s.status) e) (omega arith));
-    disk = λ is. absurd (differs 12 (sym is ∙ ap (λ (s : Said). s.status) e) (omega arith));
-    tools_stay = λ other memory. absurd (memory (ap (λ (s : Said). s.status) e));
-    disk_stays = λ other memory. absurd (memory (ap (λ (s : Said). s.status) e));
+    tools = record {
+      later = k.causes.tools.later;
+      failed = λ is. absurd (differs 11 (sym is ∙ ap (λ (s : Said). s.status) e) (omega arith));
+      stays = λ other. k.causes.tools.stays own.no_tool;
+    };
+    disk = record {
+      later = k.causes.disk.later;
+      failed = λ is. absurd (differs 12 (sym is ∙ ap (λ (s : Said). s.status) e) (omega arith));
+      stays = λ other. k.causes.disk.stays own.no_disk;
+      once = k.causes.disk.once;
+    };
     no_sink = λ is. (let sixteen : 16 ≡ 14 = sym is ∙ ap (λ (s : Said). s.status) e in omega (arith, sixteen));
   };
   calls = k.calls;

@@ -1,8 +1,11 @@
 -- When a run may answer a fault of the outside, whether or not the outside tells its content.
 use Rattle.std.specs.Prelude.{◌≡◌, ◌≢◌, ◌⊎◌, ℕ, ◌≤◌}
 use Rattle.gopass_base.specs.Faults.{Rose}
-use Rattle.io_ports.specs.Source.{Told}
+use Rattle.io_ports.specs.Source.{Told, Grew}
 use Rattle.request_body.specs.Bodies.{Input, IsOver}
+use Rattle.request_body.specs.declared.body.BodyFault.TheVariants.{Long, Failed}
+use Rattle.store_core.specs.Said.{Said}
+use Rattle.gopass_cli.specs.Requests.{body_said}
 
 -- how often the disk, the tools, the input and the two sinks have failed
 pub record AllFaults : Type 0 where
@@ -12,16 +15,9 @@ pub record AllFaults : Type 0 where
   pub out : ℕ
   pub err : ℕ
 
--- a status that tells of no fault: it is none of 11, 12, 14, 15 and 16
-pub record TellsNoFault (status : ℕ) : Type 0 where
-  pub tool : status ≢ 11
-  pub disk : status ≢ 12
-  pub memory : status ≢ 14
-  pub input : status ≢ 15
-  pub sink : status ≢ 16
-
--- no count fell, and a status of a fault comes only where its count rose: 16 where that of a sink did, and 15 where that of
--- the input did, or the input is over its limit
+-- no count fell. A status of a fault comes only where its count rose: 16 where that of a sink did, and 15 where that of the
+-- input did, or the input is over its limit. And a count rose only with its status, or with that of a sink, which is told in
+-- place of any other: so no fault is passed over, and none is told as want of memory
 pub record HasAllCauses (over : Type 0) (old new : AllFaults) (status : ℕ) : Type 0 where
   pub disk_later : old.disk ≤ new.disk
   pub tools_later : old.tools ≤ new.tools
@@ -32,7 +28,11 @@ pub record HasAllCauses (over : Type 0) (old new : AllFaults) (status : ℕ) : T
   pub disk : status ≡ 12 → Rose old.disk new.disk
   pub input : status ≡ 15 → Rose old.input new.input ⊎ over
   pub sink : status ≡ 16 → Rose old.out new.out ⊎ Rose old.err new.err
-  pub stay : TellsNoFault status → new ≡ old
+  pub tools_stay : status ≢ 11 → status ≢ 16 → new.tools ≡ old.tools
+  pub disk_stays : status ≢ 12 → status ≢ 16 → new.disk ≡ old.disk
+  pub input_stays : status ≢ 15 → status ≢ 16 → new.input ≡ old.input
+  pub out_stays : status ≢ 16 → new.out ≡ old.out
+  pub err_stays : status ≢ 16 → new.err ≡ old.err
 
 -- no count rose, and none stands at its last value
 pub record NoneRose (old new : AllFaults) : Type 0 where
@@ -42,8 +42,15 @@ pub record NoneRose (old new : AllFaults) : Type 0 where
   pub out : ¬ Rose old.out new.out
   pub err : ¬ Rose old.err new.err
 
--- the count of the input did not fall, and status 15 comes only where it rose, or the input is over its limit
-pub record HasInputCause (input : Input) (status : ℕ) : Type 0 where
+-- status 15 is said in two ways: that the input failed, where its count rose; and that it is over its limit, where its count
+-- stays and 16,777,217 bytes were taken, and where it tells what it has left that is so much
+abbrev pub SaysInputFault : Input → Said → Type 0
+SaysInputFault input said =
+    (Rose input.old_faults input.new_faults × (said ≡ body_said Failed))
+    ⊎ ((input.new_faults ≡ input.old_faults) × Grew 16777217 input.old_taken input.new_taken × Told IsOver input.before input.after × (said ≡ body_said Long))
+
+-- the count of the input did not fall, 15 is said in these two ways, and the count rose with 15 alone
+pub record HasInputCause (input : Input) (said : Said) : Type 0 where
   pub later : input.old_faults ≤ input.new_faults
-  pub failed : status ≡ 15 → Rose input.old_faults input.new_faults ⊎ Told IsOver input.before input.after
-  pub stays : status ≢ 14 → status ≢ 15 → input.new_faults ≡ input.old_faults
+  pub failed : said.status ≡ 15 → SaysInputFault input said
+  pub stays : said.status ≢ 15 → input.new_faults ≡ input.old_faults

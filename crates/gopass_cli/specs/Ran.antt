@@ -13,7 +13,7 @@ use Rattle.request_body.specs.Bodies.{IsOver, input_of}
 use Rattle.command_words.specs.Words.{words_in}
 use Rattle.gopass_cli.specs.Asks.{CallsTools, TakesInput}
 use Rattle.gopass_cli.specs.Safe.{IsSafeRun, StandsForOne}
-use Rattle.gopass_cli.specs.Causes.{AllFaults, HasAllCauses, NoneRose}
+use Rattle.gopass_cli.specs.Causes.{AllFaults, HasAllCauses, HasInputCause, NoneRose}
 use Rattle.gopass_cli.specs.Printed.{Prints, PrintsAll, printed, stream_of}
 use Rattle.gopass_cli.specs.Run.{SaidInRun, RunSays, faults_of}
 
@@ -49,9 +49,12 @@ module _ {D C S O E : Type 0} (means : Meanings D C S O E) where
     err = means.err.faults o.err;
   }
 
-  -- a fault of the outside is answered only where its count rose
-  abbrev pub RanWithCauses : (old new : Outside D C S O E) → ℕ → Type 0
-  RanWithCauses old new status = HasAllCauses (Told IsOver (means.input.left old.input) (means.input.left new.input)) (all_faults old) (all_faults new) status
+  -- told or not: what is printed is an answer, by which a fault of the outside is told exactly where its count rose
+  pub record RanWithCauses (old new : Outside D C S O E) (status : ℕ) : Type 0 where
+    pub causes : HasAllCauses (Told IsOver (means.input.left old.input) (means.input.left new.input)) (all_faults old) (all_faults new) status
+    pub said : Said
+    pub input : HasInputCause (input_of means.input old.input new.input) said
+    pub prints : Prints (printed said) status (stream_of means.out old.out) (stream_of means.out new.out) (stream_of means.err old.err) (stream_of means.err new.err)
 
   -- tools are called no more often than the command may that the words give, and the input stays as it is for one that takes no
   -- body; bad words ask nobody

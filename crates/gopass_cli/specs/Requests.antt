@@ -2,25 +2,31 @@
 use Rattle.std.specs.Prelude.{◌≡◌, ◌⊎◌, Bool, Option, codes}
 use Rattle.gopass_base.specs.Text.{Text}
 use Rattle.gopass_base.specs.Faults.{Rose}
-use Rattle.io_ports.specs.Source.{Told}
 use Rattle.cipher_port.specs.Tool.{Ring}
 use Rattle.command_words.specs.declared.command.Command.{Command}
 use Rattle.command_words.specs.declared.command.Command.TheVariants as command
 use Rattle.request_body.specs.declared.body.BodyFault.{BodyFault}
 use Rattle.request_body.specs.declared.body.BodyFault.TheVariants.{Missing, Long, Failed, NoMemory}
-use Rattle.request_body.specs.Bodies.{Input, IsMissing, IsTooLong}
+use Rattle.request_body.specs.Bodies.{Input, IsCutOff, IsMissing, IsTooLong}
 use Rattle.request_body.specs.Given.{IsGiven}
 use Rattle.store_state.specs.State.{State}
 use Rattle.store_core.specs.Events.{Events}
 use Rattle.store_core.specs.Said.{Said, refused, unsaid}
 use Rattle.gopass_cli.specs.Plan.{plan_of}
 
+-- what is said where a command is given no body, by the reason
+abbrev pub body_said : BodyFault → Said
+body_said Missing = refused 2 (codes "no body")
+body_said Long = refused 15 (codes "the input is over 16777216 bytes")
+body_said Failed = refused 15 (codes "the input failed")
+body_said NoMemory = unsaid
+
 -- what is said where no body is given to a command that takes one: none is left, its line or the input is too long, or it failed
 abbrev pub SaysNoBody : (multi : Bool) → Input → Said → Type 0
 SaysNoBody multi input said =
-    (Told (IsMissing multi) input.before input.after × (said ≡ refused 2 (codes "no body")))
-    ⊎ ((Told (IsTooLong multi) input.before input.after × (said ≡ refused 15 (codes "the input is over 16777216 bytes")))
-    ⊎ (Rose input.old_faults input.new_faults × (said ≡ refused 15 (codes "the input failed"))))
+    (IsMissing multi input × (said ≡ body_said Missing))
+    ⊎ ((IsTooLong multi input × (said ≡ body_said Long))
+    ⊎ (Rose input.old_faults input.new_faults × IsCutOff multi input × (said ≡ body_said Failed)))
 
 abbrev pub SaysOfInput : Command → Input → Said → Type 0
 SaysOfInput (command.Insert name force multi) input said = SaysNoBody multi input said
@@ -30,10 +36,3 @@ SaysOfInput _ input said = ⊥
 abbrev pub SaysOfRequest : Command → Input → Ring → State → Events → Said → Type 0
 SaysOfRequest command input ring state events said =
     SaysOfInput command input said ⊎ ((body : Option Text) × IsGiven command input body × (said ≡ (plan_of ring command body state events).said))
-
--- what is said where a command is given no body, by the reason
-abbrev pub body_said : BodyFault → Said
-body_said Missing = refused 2 (codes "no body")
-body_said Long = refused 15 (codes "the input is over 16777216 bytes")
-body_said Failed = refused 15 (codes "the input failed")
-body_said NoMemory = unsaid

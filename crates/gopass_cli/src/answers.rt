@@ -8,8 +8,6 @@ ghost use Rattle.cipher_port.specs.Tool.{Ring};
 ghost use Rattle.store_state.specs.State.{State, StandsFor};
 ghost use Rattle.store_core.specs.Moment.{HaveRing};
 ghost use Rattle.store_core.specs.Does.{HasCauses};
-ghost use Rattle.store_core.specs.Events.{TheDisk};
-ghost use Rattle.store_core.specs.Performs.{stop_said};
 ghost use Rattle.gopass_cli.specs.Opening.{SaysOfCommand, fault_said, vault_said};
 ghost use Rattle.gopass_cli.specs.Causes.{HasInputCause};
 ghost use Rattle.request_body.specs.Bodies.{Input, input_of};
@@ -22,7 +20,10 @@ ghost use Rattle.gopass_cli.specs.Safe.{KeptOrOpens, IsSafe, IsSafeRun, StandsFo
 ghost use Rattle.gopass_cli.specs.Replies.{said_in, Says};
 ghost use Rattle.gopass_cli.specs.Run.{SaidWhereTold, RunSays, faults_of};
 
-use crate::reply::{Reply, no_memory, refuse_limit, refuse_line, refuse_with, refuse_words};
+use crate::lines::{DiskLine, InputLines, RunLines};
+use crate::reply::{
+    Reply, no_memory, refuse_limit, refuse_line, refuse_with, refuse_words, tell_disk, tell_fault,
+};
 use crate::turns::{Request, turn};
 use cipher_port::Cipher;
 use command_words::{Command, WordsFault, read_words};
@@ -41,15 +42,8 @@ pub(crate) struct Answered<D> {
     pub(crate) disk: D,
 }
 
-/// The answer where the disk failed.
-fn refuse_disk(alloc: Global) -> Reply
-    ensures { Says (stop_said TheDisk) (said_in result) }
-{
-    refuse_with(alloc, 12, "the disk failed")
-}
-
 /// The answer where a vault is refused.
-fn refuse_vault(alloc: Global, root: &DirPath, fault: VaultFault) -> Reply
+fn refuse_vault(alloc: Global, disk: DiskLine, root: &DirPath, fault: VaultFault) -> Reply
     ensures { Says (vault_said root.now fault) (said_in result) }
 {
     match fault {
@@ -57,31 +51,31 @@ fn refuse_vault(alloc: Global, root: &DirPath, fault: VaultFault) -> Reply
             Ok(path) => refuse_line(alloc, path.text(), line),
             Err(_) => no_memory(alloc),
         },
-        VaultFault::Disk => refuse_disk(alloc),
+        VaultFault::Disk => tell_disk(alloc, disk),
         VaultFault::NoMemory => no_memory(alloc),
     }
 }
 
 /// The answer where no body is given to a command that takes one.
-fn refuse_body(alloc: Global, fault: BodyFault) -> Reply
+fn refuse_body(alloc: Global, lines: InputLines, fault: BodyFault) -> Reply
     ensures { Says (body_said fault) (said_in result) }
 {
     match fault {
         BodyFault::Missing => refuse_with(alloc, 2, "no body"),
-        BodyFault::Long => refuse_with(alloc, 15, "the input is over 16777216 bytes"),
-        BodyFault::Failed => refuse_with(alloc, 15, "the input failed"),
+        BodyFault::Long => tell_fault(alloc, 15, lines.long),
+        BodyFault::Failed => tell_fault(alloc, 15, lines.failed),
         BodyFault::NoMemory => no_memory(alloc),
     }
 }
 
 /// The answer where a store is refused.
-fn refuse_store(alloc: Global, fault: StoreFault) -> Reply
+fn refuse_store(alloc: Global, disk: DiskLine, fault: StoreFault) -> Reply
     ensures { Says (fault_said fault) (said_in result) }
 {
     match fault {
         StoreFault::BadFile(path, line) => refuse_line(alloc, path.text(), line),
         StoreFault::Full(limit) => refuse_limit(alloc, limit),
-        StoreFault::Disk => refuse_disk(alloc),
+        StoreFault::Disk => tell_disk(alloc, disk),
         StoreFault::NoMemory => no_memory(alloc),
     }
 }
@@ -127,6 +121,7 @@ fn answer_turn<D: Disk + Send, C: Cipher + Send>(
 fn answer_open<D: Disk + Send, C: Cipher + Send, S: Source>(
     alloc: Global,
     command: Command,
+    lines: RunLines,
     store: Store<D>,
     tools: &mut Vec<C>,
     input: &mut S,
@@ -149,12 +144,12 @@ fn answer_open<D: Disk + Send, C: Cipher + Send, S: Source>(
     ensures count { vec_len tools.new ≡ vec_len tools.old }
     ensures causes { HasCauses (faults_of D.meaning store.vault.disk C.meaning tools.old.items)
         (faults_of D.meaning result.disk C.meaning tools.new.items) result.reply.status }
-    ensures input { HasInputCause (input_of S.meaning input.old input.new) result.reply.status }
+    ensures input { HasInputCause (input_of S.meaning input.old input.new) (said_in result.reply) }
 {
     match take_body(alloc, &command, input) {
         Ok(body) => answer_turn(alloc, command, body, store, tools),
         Err(fault) => Answered {
-            reply: refuse_body(alloc, fault),
+            reply: refuse_body(alloc, lines.input, fault),
             disk: store.into_vault().into_disk(),
         },
     }
@@ -164,6 +159,7 @@ fn answer_open<D: Disk + Send, C: Cipher + Send, S: Source>(
 fn answer_vault<D: Disk + Send, C: Cipher + Send, S: Source>(
     alloc: Global,
     command: Command,
+    lines: RunLines,
     vault: Vault<D>,
     tools: &mut Vec<C>,
     input: &mut S,
@@ -187,12 +183,12 @@ fn answer_vault<D: Disk + Send, C: Cipher + Send, S: Source>(
     ensures count { vec_len tools.new ≡ vec_len tools.old }
     ensures causes { HasCauses (faults_of D.meaning vault.disk C.meaning tools.old.items)
         (faults_of D.meaning result.disk C.meaning tools.new.items) result.reply.status }
-    ensures input { HasInputCause (input_of S.meaning input.old input.new) result.reply.status }
+    ensures input { HasInputCause (input_of S.meaning input.old input.new) (said_in result.reply) }
 {
     match Store::open(alloc, vault) {
-        StoreOpened::Ready(store) => answer_open(alloc, command, store, tools, input),
+        StoreOpened::Ready(store) => answer_open(alloc, command, lines, store, tools, input),
         StoreOpened::Refused(fault, vault) => Answered {
-            reply: refuse_store(alloc, fault),
+            reply: refuse_store(alloc, lines.disk, fault),
             disk: vault.into_disk(),
         },
     }
@@ -207,6 +203,7 @@ fn files_are_an_image<D: Disk>(disk: &D)
 fn answer_command<D: Disk + Send, C: Cipher + Send, S: Source>(
     alloc: Global,
     command: Command,
+    lines: RunLines,
     root: &DirPath,
     disk: D,
     tools: &mut Vec<C>,
@@ -228,13 +225,13 @@ fn answer_command<D: Disk + Send, C: Cipher + Send, S: Source>(
     ensures count { vec_len tools.new ≡ vec_len tools.old }
     ensures causes { HasCauses (faults_of D.meaning disk C.meaning tools.old.items)
         (faults_of D.meaning result.disk C.meaning tools.new.items) result.reply.status }
-    ensures input { HasInputCause (input_of S.meaning input.old input.new) result.reply.status }
+    ensures input { HasInputCause (input_of S.meaning input.old input.new) (said_in result.reply) }
 {
     files_are_an_image(&disk);
     match Vault::open(alloc, disk, root) {
-        VaultOpened::Ready(vault) => answer_vault(alloc, command, vault, tools, input),
+        VaultOpened::Ready(vault) => answer_vault(alloc, command, lines, vault, tools, input),
         VaultOpened::Refused(fault, disk) => Answered {
-            reply: refuse_vault(alloc, root, fault),
+            reply: refuse_vault(alloc, lines.disk, root, fault),
             disk,
         },
     }
@@ -266,10 +263,16 @@ pub(crate) fn answer<D: Disk + Send, C: Cipher + Send, S: Source>(
     ensures count { vec_len tools.new ≡ vec_len tools.old }
     ensures causes { HasCauses (faults_of D.meaning disk C.meaning tools.old.items)
         (faults_of D.meaning result.disk C.meaning tools.new.items) result.reply.status }
-    ensures input { HasInputCause (input_of S.meaning input.old input.new) result.reply.status }
+    ensures input { HasInputCause (input_of S.meaning input.old input.new) (said_in result.reply) }
 {
     match read_words(alloc, words) {
-        Ok(command) => answer_command(alloc, command, root, disk, tools, input),
+        Ok(command) => match RunLines::new(alloc) {
+            Ok(lines) => answer_command(alloc, command, lines, root, disk, tools, input),
+            Err(_) => Answered {
+                reply: no_memory(alloc),
+                disk,
+            },
+        },
         Err(WordsFault::Bad { at }) => Answered {
             reply: refuse_words(alloc, at),
             disk,

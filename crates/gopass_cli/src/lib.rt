@@ -3,6 +3,7 @@
 
 mod answers;
 mod laws;
+mod lines;
 mod listing;
 mod printing;
 mod reply;
@@ -10,6 +11,7 @@ mod run;
 mod texts;
 mod turns;
 
+pub use command_words::{Command, WordsFault, read_words};
 pub use laws::{commands_keep, ended_runs_are_whole, histories_are_safe};
 pub use reply::Reply;
 pub use run::{Ended, gopass};

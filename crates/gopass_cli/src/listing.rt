@@ -70,7 +70,7 @@ fn list_folder<D: Disk>(alloc: Global, store: &Store<D>, folder: &Folder, flat: 
     ensures says { Says (list_folder flat folder.now store.now.found.seen.names.items store.now.found.mounts) (said_in result) }
     ensures own { IsInnerStatus result.status }
 {
-    match store.rows_under(alloc, folder) {
+    match store.rows_under(folder) {
         Ok(names) => {
             if !is_there(store.mounts(), folder, &names) {
                 return refuse_missing(alloc, folder.text());

@@ -1,12 +1,15 @@
 //! What a command answers.
 
-ghost use Rattle.std.specs.Prelude.{◌≡◌, IfOk, string_bytes};
+ghost use Rattle.std.specs.Prelude.{◌≡◌, [], IfOk, string_bytes};
 ghost use Rattle.gopass_base.specs.Text.{Text};
+ghost use Rattle.store_core.specs.Events.{TheDisk};
+ghost use Rattle.store_core.specs.Performs.{stop_said};
 ghost use Rattle.store_core.specs.Said.{granted, refused, unsaid};
 ghost use Rattle.store_core.specs.Texts.{bad_words, bad_name, bad_line, limit_passed, not_in_the_store};
-ghost use Rattle.store_core.specs.Refusals.{status_of, refusal_said};
-ghost use Rattle.gopass_cli.specs.Replies.{said_in, Says};
+ghost use Rattle.store_core.specs.Refusals.{IsAbout, status_of, refusal_said};
+ghost use Rattle.gopass_cli.specs.Replies.{IsInnerStatus, said_in, Says};
 
+use crate::lines::{DiskLine, SecretLines};
 use crate::texts;
 use std::alloc::{AllocError, Global};
 use store_core::Refusal;
@@ -25,8 +28,8 @@ fn status_of(refusal: &Refusal) -> u8
 {
     match refusal {
         Refusal::NotFound | Refusal::IsFolder => 3,
-        Refusal::Exists => 4,
-        Refusal::NoRule => 7,
+        Refusal::Exists(_) => 4,
+        Refusal::NoRule(_) => 7,
         Refusal::UnknownId(_) => 9,
         Refusal::Full(_) => 10,
         Refusal::NoKey(_) | Refusal::NotSealed(_) => 8,
@@ -58,8 +61,27 @@ pub(crate) fn no_memory(alloc: Global) -> Reply
     }
 }
 
+/// The answer that tells a fault of the outside, by a line that was made before.
+pub(crate) fn tell_fault(alloc: Global, status: u8, line: Vec<u8>) -> Reply
+    ensures { said_in result ≡ record { status = status; out = []; err = line.items } }
+{
+    Reply {
+        status,
+        out: Vec::new(alloc),
+        err: line,
+    }
+}
+
+/// The answer where the disk failed.
+pub(crate) fn tell_disk(alloc: Global, disk: DiskLine) -> Reply
+    ensures { said_in result ≡ stop_said TheDisk }
+{
+    tell_fault(alloc, 12, disk.line)
+}
+
 /// The answer of a command that is refused with this status and text.
 pub(crate) fn refuse_with(alloc: Global, status: u8, text: &str) -> Reply
+    requires { IsInnerStatus status }
     ensures { Says (refused status text.now) (said_in result) }
 {
     match texts::err_line(alloc, text) {
@@ -74,6 +96,7 @@ pub(crate) fn refuse_with(alloc: Global, status: u8, text: &str) -> Reply
 
 /// The same, where there is memory for the text.
 fn refuse_by(alloc: Global, status: u8, text: Result<String, AllocError>) -> Reply
+    requires { IsInnerStatus status }
     ensures { (wanted : Text) → IfOk text (λ t. string_bytes t ≡ wanted) → Says (refused status wanted) (said_in result) }
 {
     match text {
@@ -117,8 +140,9 @@ pub(crate) fn refuse_missing(alloc: Global, folder: &str) -> Reply
     refuse_by(alloc, 3, texts::not_in_the_store(alloc, folder))
 }
 
-/// The answer of a command that is refused, which was asked for this.
-pub(crate) fn refuse(alloc: Global, refusal: &Refusal, asked: &str) -> Reply
+/// The answer of a command that is refused by what is within, which was asked for this.
+fn refuse_within(alloc: Global, refusal: &Refusal, asked: &str) -> Reply
+    requires { IsInnerStatus (status_of refusal.now) }
     ensures { Says (refusal_said asked.now refusal.now) (said_in result) }
 {
     let status = status_of(refusal);
@@ -126,4 +150,17 @@ pub(crate) fn refuse(alloc: Global, refusal: &Refusal, asked: &str) -> Reply
         return no_memory(alloc);
     }
     refuse_by(alloc, status, texts::text_of(alloc, refusal, asked))
+}
+
+/// The answer of a command that is refused. A fault of the outside is told by the line that is there
+/// for it.
+pub(crate) fn refuse(alloc: Global, lines: SecretLines, refusal: &Refusal) -> Reply
+    requires { IsAbout lines.name refusal.now }
+    ensures { Says (refusal_said lines.name refusal.now) (said_in result) }
+{
+    match refusal {
+        Refusal::Tool(_) => tell_fault(alloc, 11, lines.tool),
+        Refusal::Disk => tell_disk(alloc, lines.disk),
+        _ => refuse_within(alloc, refusal, lines.name.text()),
+    }
 }

@@ -79,8 +79,9 @@ pub fn gopass<D: Disk + Send, C: Cipher + Send, S: Source, O: Sink, E: Sink>(
     ensures rings { (ring : Ring) → HaveRing C.meaning tools.old.items ring → HaveRing C.meaning tools.new.items ring }
     ensures count { vec_len tools.new ≡ vec_len tools.old }
 
-    // Told or not, a fault of the outside is answered only where its count rose; and where the status is
-    // none of 11, 12, 14, 15 and 16 no count rose.
+    // Told or not, a fault of the outside is answered only where its count rose, and a count rose with
+    // its status alone: 11 for the tools, 12 for the disk, 15 for the input, 16 for a sink, which is
+    // told in place of any other. That the input failed is said only where its count rose.
     ensures causes { RanWithCauses (meanings D.meaning C.meaning S.meaning O.meaning E.meaning)
         (outside disk tools.old.items input.old out.old err.old)
         (outside result.disk tools.new.items input.new out.new err.new) result.status }

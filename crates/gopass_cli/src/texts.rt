@@ -1,9 +1,10 @@
 //! The texts of refusals.
 
 ghost use Rattle.std.specs.Prelude.{◌≡◌, ◌++◌, IfOk, string_bytes};
-ghost use Rattle.store_core.specs.Texts.{bad_words, bad_name, bad_line, err_line, limit_passed, not_in_the_store};
+ghost use Rattle.store_core.specs.Texts.{bad_words, bad_name, bad_line, err_line, limit_passed, not_in_the_store, tool_failed};
 ghost use Rattle.store_core.specs.Refusals.{refusal_text};
 
+use gopass_base::{NoMemory, push_line};
 use std::alloc::{AllocError, Global};
 use store_core::Refusal;
 use store_state::Limit;
@@ -42,6 +43,12 @@ pub(crate) fn not_in_the_store(alloc: Global, what: &str) -> Result<String, Allo
     joined(alloc, what, " is not in the store")
 }
 
+fn tool_failed(alloc: Global, name: &str) -> Result<String, AllocError>
+    ensures { IfOk result (λ text. string_bytes text ≡ tool_failed name.now) }
+{
+    joined(alloc, name, ": the tool failed")
+}
+
 /// A limit that is passed, with its number.
 pub(crate) fn limit_passed(limit: Limit) -> &'static str
     ensures { result.now ≡ limit_passed limit }
@@ -65,24 +72,31 @@ pub(crate) fn text_of(alloc: Global, refusal: &Refusal, asked: &str) -> Result<S
     match refusal {
         Refusal::NotFound => not_in_the_store(alloc, asked),
         Refusal::IsFolder => joined(alloc, asked, " is a folder"),
-        Refusal::Exists => joined(alloc, asked, " is there already"),
-        Refusal::NoRule => joined(alloc, "no rule for ", asked),
+        Refusal::Exists(name) => joined(alloc, name.text(), " is there already"),
+        Refusal::NoRule(name) => joined(alloc, "no rule for ", name.text()),
         Refusal::UnknownId(id) => joined(alloc, id.text(), " is not known to the tool"),
         Refusal::Full(limit) => String::from_str(alloc, limit_passed(*limit)),
         Refusal::NoKey(name) => joined(alloc, name.text(), ": no key"),
         Refusal::NotSealed(name) => joined(alloc, name.text(), ": not sealed"),
-        Refusal::Tool(name) => joined(alloc, name.text(), ": the tool failed"),
+        Refusal::Tool(name) => tool_failed(alloc, name.text()),
         Refusal::Disk => String::from_str(alloc, "the disk failed"),
         Refusal::NoMemory => String::from_str(alloc, "out of memory"),
     }
 }
 
+/// The line of standard error that says that the tool failed for the secret.
+pub(crate) fn tool_line(alloc: Global, name: &str) -> Result<Vec<u8>, NoMemory>
+    ensures { IfOk result (λ line. line.items ≡ err_line (tool_failed name.now)) }
+{
+    let text = tool_failed(alloc, name)?;
+    err_line(alloc, &text)
+}
+
 /// The line of standard error that says the text.
-pub(crate) fn err_line(alloc: Global, text: &str) -> Result<Vec<u8>, AllocError>
+pub(crate) fn err_line(alloc: Global, text: &str) -> Result<Vec<u8>, NoMemory>
     ensures { IfOk result (λ line. line.items ≡ err_line text.now) }
 {
     let mut line = b"gopass: ".to_vec(alloc)?;
-    line.extend_from_slice(text.as_bytes())?;
-    line.extend_from_slice(b"\n")?;
+    push_line(&mut line, text.as_bytes())?;
     Ok(line)
 }

@@ -13,12 +13,13 @@ ghost use Rattle.gopass_cli.specs.Plan.{body_in, most_calls, plan_of};
 ghost use Rattle.gopass_cli.specs.Replies.{said_in};
 ghost use Rattle.request_body.specs.Given.{bytes_of, takes_body};
 
+use crate::lines::SecretLines;
 use crate::listing::{find, ls, mounts, recipients};
 use crate::reply::{Reply, grant, no_memory, refuse, refuse_name};
 use cipher_port::Cipher;
 use command_words::Command;
 use disk_model::Disk;
-use mount_table::{Name, NameFault};
+use mount_table::NameFault;
 use std::alloc::Global;
 use store_core::Store;
 
@@ -33,21 +34,21 @@ pub struct Request {
 fn show_name<D: Disk, C: Cipher>(
     alloc: Global,
     store: &mut Store<D>,
-    name: &Name,
+    lines: SecretLines,
     tools: &mut Vec<C>,
 ) -> Reply
     requires some { 1 ≤ vec_len tools.old }
     requires free { IsFalse store.old.vault.stuck }
-    ensures planned { Does (λ ring. plan_show ring name.now) store.old store.new
+    ensures planned { Does (λ ring. plan_show ring lines.name) store.old store.new
         (all_tools C.meaning tools.old.items) (all_tools C.meaning tools.new.items) (said_in result) }
     ensures keeps { Keeps 1 store.old store.new
         (all_tools C.meaning tools.old.items) (all_tools C.meaning tools.new.items) result.status }
     ensures rests { D.meaning.tells → Rests (D.meaning.view store.old.vault.disk) (D.meaning.view store.new.vault.disk) }
     ensures count { vec_len tools.new ≡ vec_len tools.old }
 {
-    match store.show(alloc, name, &mut tools[0]) {
+    match store.show(&lines.name, &mut tools[0]) {
         Ok(body) => grant(alloc, body),
-        Err(refusal) => refuse(alloc, &refusal, name.text()),
+        Err(refusal) => refuse(alloc, lines, &refusal),
     }
 }
 
@@ -67,8 +68,8 @@ fn show<D: Disk, C: Cipher>(
     ensures rests { D.meaning.tells → Rests (D.meaning.view store.old.vault.disk) (D.meaning.view store.new.vault.disk) }
     ensures count { vec_len tools.new ≡ vec_len tools.old }
 {
-    match Name::read(alloc, word) {
-        Ok(name) => show_name(alloc, store, &name, tools),
+    match SecretLines::read(alloc, word) {
+        Ok(lines) => show_name(alloc, store, lines, tools),
         Err(NameFault::Bad(bad)) => refuse_name(alloc, bad.at, word),
         Err(NameFault::NoMemory) => no_memory(alloc),
     }
@@ -78,22 +79,22 @@ fn show<D: Disk, C: Cipher>(
 fn insert_name<D: Disk, C: Cipher>(
     alloc: Global,
     store: &mut Store<D>,
-    name: &Name,
+    lines: SecretLines,
     body: &[u8],
     force: bool,
     tools: &mut Vec<C>,
 ) -> Reply
     requires some { 1 ≤ vec_len tools.old }
     requires free { IsFalse store.old.vault.stuck }
-    ensures planned { Does (λ ring. plan_insert ring name.now body.now force) store.old store.new
+    ensures planned { Does (λ ring. plan_insert ring lines.name body.now force) store.old store.new
         (all_tools C.meaning tools.old.items) (all_tools C.meaning tools.new.items) (said_in result) }
     ensures keeps { Keeps 1 store.old store.new
         (all_tools C.meaning tools.old.items) (all_tools C.meaning tools.new.items) result.status }
     ensures count { vec_len tools.new ≡ vec_len tools.old }
 {
-    match store.insert(alloc, name, body, force, &mut tools[0]) {
+    match store.insert(&lines.name, body, force, &mut tools[0]) {
         Ok(()) => grant(alloc, Vec::new(alloc)),
-        Err(refusal) => refuse(alloc, &refusal, name.text()),
+        Err(refusal) => refuse(alloc, lines, &refusal),
     }
 }
 
@@ -114,8 +115,8 @@ fn insert<D: Disk, C: Cipher>(
         (all_tools C.meaning tools.old.items) (all_tools C.meaning tools.new.items) result.status }
     ensures count { vec_len tools.new ≡ vec_len tools.old }
 {
-    match Name::read(alloc, word) {
-        Ok(name) => insert_name(alloc, store, &name, body, force, tools),
+    match SecretLines::read(alloc, word) {
+        Ok(lines) => insert_name(alloc, store, lines, body, force, tools),
         Err(NameFault::Bad(bad)) => refuse_name(alloc, bad.at, word),
         Err(NameFault::NoMemory) => no_memory(alloc),
     }

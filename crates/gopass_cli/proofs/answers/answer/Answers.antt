@@ -14,8 +14,8 @@ use Rattle.gopass_cli.proofs.RunLemmas.{runs_meant, runs_unsaid, runs_weaker}
 use Rattle.gopass_cli.proofs.SafeLemmas.{same_kept, same_safe, tells_memory, tells_words}
 use Rattle.gopass_cli.proofs.answers.answer.Goals as goal
 
-pub returns-in-Ok-clause-answers : goal.returns-in-Ok-clause-answers
-returns-in-Ok-clause-answers g c told tells ring have =
+pub returns-in-Ok-new-clause-answers : goal.returns-in-Ok-new-clause-answers
+returns-in-Ok-new-clause-answers g c told tells ring have =
     let opens = g.C.Cipher.meaning.opens in
     let input = input_of g.S.Source.meaning c.args.input.now c.answer_command.new.input in
     let root = c.args.root.now in
@@ -36,15 +36,15 @@ returns-in-Err-Bad-clause-answers g c told tells ring have =
     let now = faults_of g.D.Disk.meaning c.args.disk g.C.Cipher.meaning c.args.tools.now.items in
     let bad = subst (λ (fault : WordsFault). ReadsWords (Err fault) (words_in (map string_bytes c.args.words.now))) c.in-Err-Bad.field-0-is c.in-Err-Bad.ensures in
     subst (λ (asked : Result Asked ℕ). SaidInRun (SaysOfWords asked opens root files input ring) now now (said_in c.refuse_words.result)) (sym bad)
-    (runs_meant (SaysOfWords (Err c.in-Err-Bad.at) opens root files input ring) now now (omega arith) (refused 2 (bad_words c.in-Err-Bad.at)) (said_in c.refuse_words.result) (refl, record { left = refl; faults = refl }) c.refuse_words.ensures)
+    (runs_meant (SaysOfWords (Err c.in-Err-Bad.at) opens root files input ring) now now (omega arith) (refused 2 (bad_words c.in-Err-Bad.at)) (said_in c.refuse_words.result) (refl, record { left = refl; taken = refl; ends = refl; faults = refl }) c.refuse_words.ensures)
 
 pub returns-in-Err-NoMemory-clause-answers : goal.returns-in-Err-NoMemory-clause-answers
 returns-in-Err-NoMemory-clause-answers g c told tells ring have =
     let now = faults_of g.D.Disk.meaning c.args.disk g.C.Cipher.meaning c.args.tools.now.items in
-    runs_unsaid (RunSays (map string_bytes c.args.words.now) g.C.Cipher.meaning.opens c.args.root.now (g.D.Disk.meaning.view c.args.disk).files (input_of g.S.Source.meaning c.args.input.now c.args.input.now) ring) now now (omega arith) (said_in c.no_memory.result) c.no_memory.ensures
+    runs_unsaid (RunSays (map string_bytes c.args.words.now) g.C.Cipher.meaning.opens c.args.root.now (g.D.Disk.meaning.view c.args.disk).files (input_of g.S.Source.meaning c.args.input.now c.args.input.now) ring) now now (omega arith) (said_in c.no_memory-in-Err-NoMemory.result) c.no_memory-in-Err-NoMemory.ensures
 
-pub returns-in-Ok-clause-safe : goal.returns-in-Ok-clause-safe
-returns-in-Ok-clause-safe g c told tells ring have before stand =
+pub returns-in-Ok-new-clause-safe : goal.returns-in-Ok-new-clause-safe
+returns-in-Ok-new-clause-safe g c told tells ring have before stand =
     ⊎_elim (λ none. inl none) (λ went. inr (c.in-Ok.command, c.in-Ok.ensures, went)) (c.answer_command.ensures.safe told tells ring have before stand)
 
 pub returns-in-Err-Bad-clause-safe : goal.returns-in-Err-Bad-clause-safe
@@ -56,7 +56,7 @@ returns-in-Err-Bad-clause-safe g c told tells ring have before stand = inl (reco
 
 pub returns-in-Err-NoMemory-clause-safe : goal.returns-in-Err-NoMemory-clause-safe
 returns-in-Err-NoMemory-clause-safe g c told tells ring have before stand = inl (record {
-  tells = tells_memory (said_in c.no_memory.result) c.no_memory.ensures;
+  tells = tells_memory (said_in c.no_memory-in-Err-NoMemory.result) c.no_memory-in-Err-NoMemory.ensures;
   any_moment = same_safe g.C.Cipher.meaning.opens c.args.root.now before (g.D.Disk.meaning.view c.args.disk) stand;
   kept = same_kept g.C.Cipher.meaning.opens c.args.root.now (g.D.Disk.meaning.view c.args.disk);
 })
@@ -66,3 +66,18 @@ returns-in-Err-Bad-clause-kept g c told = inl (same_kept g.C.Cipher.meaning.open
 
 pub returns-in-Err-NoMemory-clause-kept : goal.returns-in-Err-NoMemory-clause-kept
 returns-in-Err-NoMemory-clause-kept g c told = inl (same_kept g.C.Cipher.meaning.opens c.args.root.now (g.D.Disk.meaning.view c.args.disk))
+
+pub returns-in-Err-clause-answers : goal.returns-in-Err-clause-answers
+returns-in-Err-clause-answers g c told tells ring have =
+    let now = faults_of g.D.Disk.meaning c.args.disk g.C.Cipher.meaning c.args.tools.now.items in
+    runs_unsaid (RunSays (map string_bytes c.args.words.now) g.C.Cipher.meaning.opens c.args.root.now (g.D.Disk.meaning.view c.args.disk).files (input_of g.S.Source.meaning c.args.input.now c.args.input.now) ring) now now (omega arith) (said_in c.no_memory.result) c.no_memory.ensures
+
+pub returns-in-Err-clause-safe : goal.returns-in-Err-clause-safe
+returns-in-Err-clause-safe g c told tells ring have before stand = inl (record {
+  tells = tells_memory (said_in c.no_memory.result) c.no_memory.ensures;
+  any_moment = same_safe g.C.Cipher.meaning.opens c.args.root.now before (g.D.Disk.meaning.view c.args.disk) stand;
+  kept = same_kept g.C.Cipher.meaning.opens c.args.root.now (g.D.Disk.meaning.view c.args.disk);
+})
+
+pub returns-in-Err-clause-kept : goal.returns-in-Err-clause-kept
+returns-in-Err-clause-kept g c told = inl (same_kept g.C.Cipher.meaning.opens c.args.root.now (g.D.Disk.meaning.view c.args.disk))

@@ -34,7 +34,7 @@ pub returns-in-Refused-clause-answers : goal.returns-in-Refused-clause-answers
 returns-in-Refused-clause-answers g c told tells ring have =
     let old = faults_of g.D.Disk.meaning c.args.disk g.C.Cipher.meaning c.args.tools.now.items in
     let new = faults_of g.D.Disk.meaning c.in-Refused.disk g.C.Cipher.meaning c.args.tools.now.items in
-    runs_vault g.C.Cipher.meaning.opens c.args.root.now (g.D.Disk.meaning.view c.args.disk).files (input_of g.S.Source.meaning c.args.input.now c.args.input.now) (record { left = refl; faults = refl }) ring c.args.command old new c.in-Refused.fault (said_in c.refuse_vault.result) (omega arith)
+    runs_vault g.C.Cipher.meaning.opens c.args.root.now (g.D.Disk.meaning.view c.args.disk).files (input_of g.S.Source.meaning c.args.input.now c.args.input.now) (record { left = refl; taken = refl; ends = refl; faults = refl }) ring c.args.command old new c.in-Refused.fault (said_in c.refuse_vault.result) (omega arith)
     (c.in-Refused.ensures.refused told) (λ e. c.in-Refused.ensures.cause.failed e) c.refuse_vault.ensures
 
 pub returns-in-Ready-clause-safe : goal.returns-in-Ready-clause-safe

@@ -44,7 +44,7 @@ returns-in-Refused-clause-answers g c first redone told tells ring have =
     let files = (g.D.Disk.meaning.view vault.disk).files in
     let says = SaysOfCommand g.C.Cipher.meaning.opens vault.root first input ring c.args.command in
     subst (λ d. SaidInRun says old (faults_of g.D.Disk.meaning d g.C.Cipher.meaning c.args.tools.now.items) (said_in c.refuse_store.result)) (sym c.into_disk.ensures)
-    (runs_fault g.C.Cipher.meaning.opens vault.root first files input (record { left = refl; faults = refl }) ring c.args.command old new c.in-Refused.fault (said_in c.refuse_store.result) (omega arith) redone (c.in-Refused.ensures.opens told) (λ e. c.in-Refused.ensures.cause.failed e) c.refuse_store.ensures)
+    (runs_fault g.C.Cipher.meaning.opens vault.root first files input (record { left = refl; taken = refl; ends = refl; faults = refl }) ring c.args.command old new c.in-Refused.fault (said_in c.refuse_store.result) (omega arith) redone (c.in-Refused.ensures.opens told) (λ e. c.in-Refused.ensures.cause.failed e) c.refuse_store.ensures)
 
 pub returns-in-Ready-clause-safe : goal.returns-in-Ready-clause-safe
 returns-in-Ready-clause-safe g c state stands told tells ring have before from =
