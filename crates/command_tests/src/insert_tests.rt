@@ -25,13 +25,13 @@ fn shown(alloc: Global, disk: MemDisk, words: &[&str]) -> Result<Vec<u8>, Fail> 
     if left.status != 0 {
         return Err(Fail::from("not shown"));
     }
-    Ok(left.out)
+    Ok(left.out().to_vec(alloc)?)
 }
 
 /// What the words leave, where they print nothing on standard output.
-fn quiet(alloc: Global, store: &Store, words: &[&str]) -> Result<Left, Fail> {
+fn quiet(alloc: Global, store: &Store, words: &[&str]) -> Result<Left<MemDisk>, Fail> {
     let left = run(alloc, store, words)?;
-    if left.out.is_empty() {
+    if left.out().is_empty() {
         Ok(left)
     } else {
         Err(Fail::from("printed"))
@@ -47,8 +47,9 @@ fn stored(
     show: &[&str],
 ) -> Result<(u8, Vec<u8>, Vec<u8>), Fail> {
     let left = quiet(alloc, store, words)?;
-    let body = shown(alloc, left.disk, show)?;
-    Ok((left.status, left.err, body))
+    let status = left.status;
+    let err = left.err().to_vec(alloc)?;
+    Ok((status, err, shown(alloc, left.disk, show)?))
 }
 
 #[test]
@@ -115,7 +116,7 @@ fn inserted(alloc: Global, words: &[&str], count: usize) -> Result<(u8, Vec<u8>)
         ..STORE
     };
     let left = quiet(alloc, &store, words)?;
-    Ok((left.status, left.err))
+    Ok((left.status, left.err().to_vec(alloc)?))
 }
 
 #[test]
@@ -174,8 +175,9 @@ fn is(body: &[u8], text: &str) -> bool {
 #[test]
 fn every_crash_shows_the_old_or_the_new_body(rt: HostRuntime) -> Result<(), Fail> {
     let alloc = rt.alloc();
-    let Left { status, disk, .. } = quiet(alloc, &STORE, INSERT)?;
-    assert_eq!(rt; status, 0);
+    let left = quiet(alloc, &STORE, INSERT)?;
+    assert_eq!(rt; left.status, 0);
+    let disk = left.disk;
     let steps = disk.steps();
     for moment in 0..=steps {
         for pick in PICKS {
@@ -209,15 +211,10 @@ fn every_failing_call_shows_the_old_or_the_new_body(rt: HostRuntime) -> Result<(
             disk_fails: &[call],
             ..STORE
         };
-        let Left {
-            status,
-            disk,
-            err,
-            ..
-        } = quiet(alloc, &store, INSERT)?;
-        assert_eq!(rt; status, 12, "{call}");
-        assert!(rt; is(&err, "gopass: the disk failed\n"), "{call}");
-        let mut disk = disk;
+        let left = quiet(alloc, &store, INSERT)?;
+        assert_eq!(rt; left.status, 12, "{call}");
+        assert!(rt; is(left.err(), "gopass: the disk failed\n"), "{call}");
+        let mut disk = left.disk;
         disk.fail_at(Vec::new(alloc));
         assert!(rt; shows_either(alloc, disk)?, "{call}");
     }

@@ -2,7 +2,17 @@
 #![tactic(auto)]
 
 #[cfg(test)]
+mod calls_tests;
+#[cfg(test)]
+mod crowd;
+#[cfg(test)]
+mod files_tests;
+#[cfg(test)]
+mod input_tests;
+#[cfg(test)]
 mod insert_tests;
+#[cfg(test)]
+mod limit_tests;
 #[cfg(test)]
 mod listing_tests;
 #[cfg(test)]
@@ -14,4 +24,4 @@ mod show_tests;
 #[cfg(test)]
 mod store;
 #[cfg(test)]
-mod turn_tests;
+mod stream_tests;

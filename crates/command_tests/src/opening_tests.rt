@@ -1,9 +1,6 @@
 //! Stores with mounts, and stores that are not opened.
 
-use crate::store::{CALM, Left, Store, check_rows, run_on};
-use disk_model::MemDisk;
-use mount_table::FilePath;
-use std::alloc::Global;
+use crate::store::{CALM, Store, check_rows};
 use std::test::Fail;
 
 const MOUNTS: (&str, &[u8]) = (
@@ -117,54 +114,5 @@ fn a_mounts_file_that_does_not_read_refuses_the_opening(rt: HostRuntime) -> Resu
             ],
         )?;
     }
-    Ok(())
-}
-
-/// A disk with so many files of this ending in the root directory.
-fn many(alloc: Global, count: usize, ending: &str) -> Result<MemDisk, Fail> {
-    let mut files = Vec::new(alloc);
-    for number in 100_000..count.saturating_add(100_000) {
-        let path = format!(in alloc; "root/{number}{ending}")?;
-        files.push((FilePath::read(alloc, &path)?, Vec::new(alloc)))?;
-    }
-    Ok(MemDisk::new(alloc, files)?)
-}
-
-/// What a search without a hit leaves on such a disk.
-fn searched(rt: &HostRuntime, count: usize, ending: &str) -> Result<Left, Fail> {
-    let disk = many(rt.alloc(), count, ending)?;
-    run_on(rt.alloc(), &MOUNTED, disk, &["find", "zz"])
-}
-
-#[test]
-fn a_mount_with_too_many_files_is_not_opened(rt: HostRuntime) -> Result<(), Fail> {
-    let left = searched(&rt, 40_001, "")?;
-    assert_eq!(rt; left.status, 10);
-    assert_eq!(rt; left.out.len(), 0);
-    assert_eq!(rt;
-        left.err.as_slice(),
-        b"gopass: limit 40000 files\n".as_slice()
-    );
-    Ok(())
-}
-
-#[test]
-fn a_store_with_too_many_secrets_is_not_opened(rt: HostRuntime) -> Result<(), Fail> {
-    let left = searched(&rt, 8_193, ".gpg")?;
-    assert_eq!(rt; left.status, 10);
-    assert_eq!(rt; left.out.len(), 0);
-    assert_eq!(rt;
-        left.err.as_slice(),
-        b"gopass: limit 8192 secrets\n".as_slice()
-    );
-    Ok(())
-}
-
-#[test]
-fn a_store_with_8192_secrets_is_opened(rt: HostRuntime) -> Result<(), Fail> {
-    let left = searched(&rt, 8_192, ".gpg")?;
-    assert_eq!(rt; left.status, 1);
-    assert_eq!(rt; left.out.len(), 0);
-    assert_eq!(rt; left.err.len(), 0);
     Ok(())
 }

@@ -1,8 +1,6 @@
 //! The rules of a store, and `recipients`.
 
-use crate::store::{CALM, Store, check_rows, run_on};
-use disk_model::MemDisk;
-use mount_table::FilePath;
+use crate::store::{CALM, Store, check_rows};
 use std::test::Fail;
 
 const RULES: Store = Store {
@@ -92,40 +90,5 @@ fn a_rule_file_that_does_not_read_refuses_the_opening(rt: HostRuntime) -> Result
             ],
         )?;
     }
-    Ok(())
-}
-
-/// A disk with so many folders that have a rule.
-fn ruled(rt: &HostRuntime, count: usize) -> Result<MemDisk, Fail> {
-    let mut files = Vec::new(rt.alloc());
-    for number in 1_000..count.saturating_add(1_000) {
-        let path = format!(in rt.alloc(); "root/{number}/.gpg-id")?;
-        files.push((
-            FilePath::read(rt.alloc(), &path)?,
-            b"alice\n".to_vec(rt.alloc())?,
-        ))?;
-    }
-    Ok(MemDisk::new(rt.alloc(), files)?)
-}
-
-#[test]
-fn a_store_with_512_rules_is_opened(rt: HostRuntime) -> Result<(), Fail> {
-    let left = run_on(rt.alloc(), &RULES, ruled(&rt, 512)?, &["recipients"])?;
-    assert_eq!(rt; left.status, 0);
-    // A folder of four bytes and an id of seven, each with its line feed.
-    assert_eq!(rt; left.out.len(), 512 * 13);
-    assert_eq!(rt; left.err.len(), 0);
-    Ok(())
-}
-
-#[test]
-fn a_store_with_513_rules_is_not_opened(rt: HostRuntime) -> Result<(), Fail> {
-    let left = run_on(rt.alloc(), &RULES, ruled(&rt, 513)?, &["recipients"])?;
-    assert_eq!(rt; left.status, 10);
-    assert_eq!(rt; left.out.len(), 0);
-    assert_eq!(rt;
-        left.err.as_slice(),
-        b"gopass: limit 512 rules\n".as_slice()
-    );
     Ok(())
 }

@@ -1,6 +1,6 @@
 //! `show NAME`.
 
-use crate::store::{CALM, Left, RULE, SITE, Store, check_rows, disk, run_texts};
+use crate::store::{CALM, RULE, SITE, Store, check_rows};
 use std::test::Fail;
 
 const EMPTY: (&str, &[u8]) = ("root/e.gpg", b"gopass-standin 1\nto alice\nbody \nend\n");
@@ -81,29 +81,33 @@ fn other_words_are_bad(rt: HostRuntime) -> Result<(), Fail> {
     )
 }
 
-/// What `show` of this name leaves.
-fn shown(rt: &HostRuntime, name: &str) -> Result<Left, Fail> {
-    let mut words = Vec::new(rt.alloc());
-    words.push(String::from_str(rt.alloc(), "show")?)?;
-    words.push(String::from_str(rt.alloc(), name)?)?;
-    run_texts(rt.alloc(), &STORE, disk(rt.alloc(), &STORE)?, &words)
-}
+/// Three parts of 100 bytes and one of 97.
+const NAME_OF_400: &str =
+    "xxxxxxxxxxxxxxxxxxxxxxxxxxxxxxxxxxxxxxxxxxxxxxxxxxxxxxxxxxxxxxxxxxxxxxxxxxxxxxxxxxxxxxxxxxxxxxxxxxxx/xxxxxxxxxxxxxxxxxxxxxxxxxxxxxxxxxxxxxxxxxxxxxxxxxxxxxxxxxxxxxxxxxxxxxxxxxxxxxxxxxxxxxxxxxxxxxxxxxxxx/xxxxxxxxxxxxxxxxxxxxxxxxxxxxxxxxxxxxxxxxxxxxxxxxxxxxxxxxxxxxxxxxxxxxxxxxxxxxxxxxxxxxxxxxxxxxxxxxxxxx/xxxxxxxxxxxxxxxxxxxxxxxxxxxxxxxxxxxxxxxxxxxxxxxxxxxxxxxxxxxxxxxxxxxxxxxxxxxxxxxxxxxxxxxxxxxxxxxxx";
+
+const NAME_OF_401: &str =
+    "xxxxxxxxxxxxxxxxxxxxxxxxxxxxxxxxxxxxxxxxxxxxxxxxxxxxxxxxxxxxxxxxxxxxxxxxxxxxxxxxxxxxxxxxxxxxxxxxxxxx/xxxxxxxxxxxxxxxxxxxxxxxxxxxxxxxxxxxxxxxxxxxxxxxxxxxxxxxxxxxxxxxxxxxxxxxxxxxxxxxxxxxxxxxxxxxxxxxxxxxx/xxxxxxxxxxxxxxxxxxxxxxxxxxxxxxxxxxxxxxxxxxxxxxxxxxxxxxxxxxxxxxxxxxxxxxxxxxxxxxxxxxxxxxxxxxxxxxxxxxxx/xxxxxxxxxxxxxxxxxxxxxxxxxxxxxxxxxxxxxxxxxxxxxxxxxxxxxxxxxxxxxxxxxxxxxxxxxxxxxxxxxxxxxxxxxxxxxxxxxx";
 
 #[test]
 fn names_of_400_bytes_and_of_401(rt: HostRuntime) -> Result<(), Fail> {
-    let longest = "x".repeat(rt.alloc(), 100)?;
-    let short = "x".repeat(rt.alloc(), 97)?;
-    let name = format!(in rt.alloc(); "{longest}/{longest}/{longest}/{short}")?;
-    let missing = format!(in rt.alloc(); "gopass: {name} is not in the store\n")?;
-    let left = shown(&rt, &name)?;
-    assert_eq!(rt; left.status, 3);
-    assert_eq!(rt; left.err.as_slice(), missing.as_bytes());
-    let long = format!(in rt.alloc(); "{name}x")?;
-    let bad = format!(in rt.alloc(); "gopass: bad name at 400: {long}\n")?;
-    let left = shown(&rt, &long)?;
-    assert_eq!(rt; left.status, 2);
-    assert_eq!(rt; left.err.as_slice(), bad.as_bytes());
-    Ok(())
+    check_rows(
+        &rt,
+        &STORE,
+        &[
+            (
+                &["show", NAME_OF_400],
+                3,
+                "",
+                "gopass: xxxxxxxxxxxxxxxxxxxxxxxxxxxxxxxxxxxxxxxxxxxxxxxxxxxxxxxxxxxxxxxxxxxxxxxxxxxxxxxxxxxxxxxxxxxxxxxxxxxx/xxxxxxxxxxxxxxxxxxxxxxxxxxxxxxxxxxxxxxxxxxxxxxxxxxxxxxxxxxxxxxxxxxxxxxxxxxxxxxxxxxxxxxxxxxxxxxxxxxxx/xxxxxxxxxxxxxxxxxxxxxxxxxxxxxxxxxxxxxxxxxxxxxxxxxxxxxxxxxxxxxxxxxxxxxxxxxxxxxxxxxxxxxxxxxxxxxxxxxxxx/xxxxxxxxxxxxxxxxxxxxxxxxxxxxxxxxxxxxxxxxxxxxxxxxxxxxxxxxxxxxxxxxxxxxxxxxxxxxxxxxxxxxxxxxxxxxxxxxx is not in the store\n",
+            ),
+            (
+                &["show", NAME_OF_401],
+                2,
+                "",
+                "gopass: bad name at 400: xxxxxxxxxxxxxxxxxxxxxxxxxxxxxxxxxxxxxxxxxxxxxxxxxxxxxxxxxxxxxxxxxxxxxxxxxxxxxxxxxxxxxxxxxxxxxxxxxxxx/xxxxxxxxxxxxxxxxxxxxxxxxxxxxxxxxxxxxxxxxxxxxxxxxxxxxxxxxxxxxxxxxxxxxxxxxxxxxxxxxxxxxxxxxxxxxxxxxxxxx/xxxxxxxxxxxxxxxxxxxxxxxxxxxxxxxxxxxxxxxxxxxxxxxxxxxxxxxxxxxxxxxxxxxxxxxxxxxxxxxxxxxxxxxxxxxxxxxxxxxx/xxxxxxxxxxxxxxxxxxxxxxxxxxxxxxxxxxxxxxxxxxxxxxxxxxxxxxxxxxxxxxxxxxxxxxxxxxxxxxxxxxxxxxxxxxxxxxxxxx\n",
+            ),
+        ],
+    )
 }
 
 #[test]

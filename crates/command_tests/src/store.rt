@@ -4,9 +4,9 @@ ghost use Rattle.std.specs.Prelude.{◌≡◌, All, IfOk, vec_len};
 ghost use Rattle.cipher_port.specs.Tool.{Ring};
 
 use cipher_port::{Id, MemTool};
-use disk_model::MemDisk;
+use disk_model::{Disk, MemDisk};
 use gopass_cli::{Ended, gopass};
-use io_ports::{MemSink, MemSource};
+use io_ports::{MemSink, MemSource, Sink, Source};
 use mount_table::{DirPath, FilePath};
 use std::alloc::Global;
 use std::process::Abort;
@@ -23,6 +23,7 @@ pub(crate) struct Store<'a> {
     pub disk_fails: &'a [u64],
     pub tool_fails: &'a [u64],
     pub out_fails: &'a [u64],
+    pub err_fails: &'a [u64],
 }
 
 /// A rule for alice at the root.
@@ -43,18 +44,60 @@ pub(crate) const CALM: Store = Store {
     disk_fails: &[],
     tool_fails: &[],
     out_fails: &[],
+    err_fails: &[],
 };
 
 /// The words, and the status, standard output and standard error that they leave.
 pub(crate) type Row<'a> = (&'a [&'a str], u8, &'a str, &'a str);
 
-/// What a run left: its status, the disk, and the bytes of its two streams.
+/// The streams of a run.
 #[derive(Drop)]
-pub(crate) struct Left {
+pub(crate) struct Streams<S, O> {
+    pub input: S,
+    pub out: O,
+    pub err: O,
+}
+
+/// What a run left: its status, the disk, the tool and the streams.
+#[derive(Drop)]
+pub(crate) struct Ran<D, S, O> {
     pub status: u8,
-    pub disk: MemDisk,
-    pub out: Vec<u8>,
-    pub err: Vec<u8>,
+    pub disk: D,
+    pub tools: Vec<MemTool>,
+    pub streams: Streams<S, O>,
+}
+
+/// What a run left where each stream may fail.
+pub(crate) type Left<D> = Ran<D, MemSource, MemSink>;
+
+impl<D> Left<D> {
+    /// The bytes on standard output.
+    pub(crate) fn out(&self) -> &[u8] {
+        self.streams.out.taken()
+    }
+
+    /// The bytes on standard error.
+    pub(crate) fn err(&self) -> &[u8] {
+        self.streams.err.taken()
+    }
+
+    /// The status, and the bytes on standard output and on standard error.
+    pub(crate) fn told(&self) -> (u8, &[u8], &[u8]) {
+        (self.status, self.out(), self.err())
+    }
+
+    /// The bytes of the input that were not taken.
+    pub(crate) fn rest(&self) -> &[u8] {
+        self.streams.input.left()
+    }
+
+    /// How often the tool was called.
+    pub(crate) fn tool_calls(&self) -> u64 {
+        match self.tools.first() {
+            Some(tool) => tool.calls(),
+            None => 0,
+        }
+    }
 }
 
 pub(crate) fn disk(alloc: Global, store: &Store) -> Result<MemDisk, Fail> {
@@ -90,47 +133,71 @@ pub(crate) fn tools(alloc: Global, store: &Store) -> Result<Vec<MemTool>, Fail>
     Ok(tools)
 }
 
-/// Runs the words on the store.
-pub(crate) fn run(alloc: Global, store: &Store, words: &[&str]) -> Result<Left, Fail> {
-    run_on(alloc, store, disk(alloc, store)?, words)
-}
-
-/// Runs the words on this disk, with the tool and the sinks of the store.
-pub(crate) fn run_on(
-    alloc: Global,
-    store: &Store,
-    disk: MemDisk,
-    words: &[&str],
-) -> Result<Left, Fail> {
+pub(crate) fn texts(alloc: Global, words: &[&str]) -> Result<Vec<String>, Fail> {
     let mut texts = Vec::new(alloc);
     for word in words {
         texts.push(String::from_str(alloc, word)?)?;
     }
-    run_texts(alloc, store, disk, &texts)
+    Ok(texts)
 }
 
-/// The same for words that stand in memory.
-pub(crate) fn run_texts(
-    alloc: Global,
-    store: &Store,
-    disk: MemDisk,
-    texts: &[String],
-) -> Result<Left, Fail> {
-    let mut tools = tools(alloc, store)?;
+fn streams_for(alloc: Global, store: &Store) -> Result<Streams<MemSource, MemSink>, Fail> {
     let input = store.input.to_vec(alloc)?;
-    let mut input = MemSource::new(input, store.input_fails.to_vec(alloc)?);
-    let mut out = MemSink::new(alloc, 40_000, store.out_fails.to_vec(alloc)?)?;
-    let mut err = MemSink::new(alloc, 1_000, Vec::new(alloc))?;
-    let root = DirPath::read(alloc, "root")?;
+    Ok(Streams {
+        input: MemSource::new(input, store.input_fails.to_vec(alloc)?),
+        out: MemSink::new(alloc, 40_000, store.out_fails.to_vec(alloc)?)?,
+        err: MemSink::new(alloc, 1_000, store.err_fails.to_vec(alloc)?)?,
+    })
+}
+
+/// Calls `gopass`, and nothing else. Nothing here can fail: an exit by `?` beside what is lent to the
+/// call costs minutes to prove.
+pub(crate) fn called<D: Disk + Send, S: Source, O: Sink>(
+    alloc: Global,
+    words: &[String],
+    root: &DirPath,
+    disk: D,
+    tools: Vec<MemTool>,
+    streams: Streams<S, O>,
+) -> Ran<D, S, O>
+    requires one { vec_len tools ≡ 1 }
+    requires rings { (ring : Ring) × All (λ tool. tool.ring ≡ ring) tools.items }
+{
+    let mut tools = tools;
+    let Streams {
+        mut input,
+        mut out,
+        mut err,
+    } = streams;
     let Ended { status, disk } = gopass(
-        alloc, texts, &root, disk, &mut tools, &mut input, &mut out, &mut err,
+        alloc, words, root, disk, &mut tools, &mut input, &mut out, &mut err,
     );
-    Ok(Left {
+    let streams = Streams { input, out, err };
+    Ran {
         status,
         disk,
-        out: out.taken().to_vec(alloc)?,
-        err: err.taken().to_vec(alloc)?,
-    })
+        tools,
+        streams,
+    }
+}
+
+/// Runs the words on the store.
+pub(crate) fn run(alloc: Global, store: &Store, words: &[&str]) -> Result<Left<MemDisk>, Fail> {
+    run_on(alloc, store, disk(alloc, store)?, words)
+}
+
+/// Runs the words on this disk, with the tool and the streams of the store.
+pub(crate) fn run_on<D: Disk + Send + Drop>(
+    alloc: Global,
+    store: &Store,
+    disk: D,
+    words: &[&str],
+) -> Result<Left<D>, Fail> {
+    let texts = texts(alloc, words)?;
+    let root = DirPath::read(alloc, "root")?;
+    let tools = tools(alloc, store)?;
+    let streams = streams_for(alloc, store)?;
+    Ok(called(alloc, &texts, &root, disk, tools, streams))
 }
 
 /// The rows leave what they say on the store.
@@ -141,9 +208,8 @@ pub(crate) fn check_rows<R: Abort + AllocGlobal>(
 ) -> Result<(), Fail> {
     for (words, status, out, err) in rows {
         let left = run(rt.alloc(), store, words)?;
-        assert_eq!(rt; left.status, *status, "{words:?}");
-        assert_eq!(rt; left.out.as_slice(), out.as_bytes(), "{words:?}");
-        assert_eq!(rt; left.err.as_slice(), err.as_bytes(), "{words:?}");
+        let want = (*status, out.as_bytes(), err.as_bytes());
+        assert_eq!(rt; left.told(), want, "{words:?}");
     }
     Ok(())
 }
