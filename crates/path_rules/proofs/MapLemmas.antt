@@ -64,7 +64,7 @@ pub len_is : (fs : List Text) (ss : List Ids) → AreEntries fs ss → map.len (
 len_is fs ss are = map.len-entries (map_of fs ss) ∙ (ap length (map.entries-from_sorted order (zip fs ss) are.rising) ∙ length_zip fs ss are.as_many)
 
 pub none_are : AreEntries [] []
-none_are = record { as_many = refl; few = omega arith; rising = tt }
+none_are = record { as_many = refl; rising = tt }
 
 pub none_is : map_of [] [] ≡ map.empty
 none_is = map.empty_of_len (map_of [] []) (len_is [] [] none_are)
@@ -85,17 +85,16 @@ by_put fs ss fs' ss' q v are e =
 pub set_there : (fs : List Text) (ss : List Ids) (q : Text) (v : Ids) (k : ℕ) → AreEntries fs ss → IsSpot fs q (At k) → AreEntries fs (set ss k v) × (map_of fs (set ss k v) ≡ map.insert (map_of fs ss) q v)
 set_there fs ss q v k are (lt, is) =
     let put = by_put fs ss fs (set ss k v) q v are (put_found fs ss q v k are.as_many (rise fs ss are.as_many are.rising) lt is) in
-    (record { as_many = length-set ss k v ∙ are.as_many; few = are.few; rising = put.0 }, put.1)
+    (record { as_many = length-set ss k v ∙ are.as_many; rising = put.0 }, put.1)
 
 -- a folder gets a rule
-pub put_there : (fs : List Text) (ss : List Ids) (q : Text) (v : Ids) (i : ℕ) → AreEntries fs ss → IsSpot fs q (Before i) → length fs < 512
+pub put_there : (fs : List Text) (ss : List Ids) (q : Text) (v : Ids) (i : ℕ) → AreEntries fs ss → IsSpot fs q (Before i)
     → AreEntries (insert fs i q) (insert ss i v) × (map_of (insert fs i q) (insert ss i v) ≡ map.insert (map_of fs ss) q v)
-put_there fs ss q v i are (inside, low, high) room =
+put_there fs ss q v i are (inside, low, high) =
     let many : length ss ≡ length fs = are.as_many in
     let put = by_put fs ss (insert fs i q) (insert ss i v) q v are (put_missing fs ss q v i many inside low (λ lt. high i (omega arith) lt)) in (
       record {
         as_many = omega (arith, many, length-insert fs i q inside, length-insert ss i v (omega (arith, many)));
-        few = omega (arith, length-insert fs i q inside);
         rising = put.0;
       },
       put.1,
@@ -109,12 +108,10 @@ turned false c x y e = ap (λ t. cond t y x) e
 pub taken : (fs : List Text) (ss : List Ids) (q : Text) (k : ℕ) → AreEntries fs ss → IsSpot fs q (At k) → AreEntries (remove fs k) (remove ss k) × (map_of (remove fs k) (remove ss k) ≡ map.remove (map_of fs ss) q)
 taken fs ss q k are (lt, is) =
     let many : length ss ≡ length fs = are.as_many in
-    let few = are.few in
     let out : zip (remove fs k) (remove ss k) ≡ where_key order (other_than q) (zip fs ss) = taken_out fs ss q k many (rise fs ss many are.rising) lt is in
     let up : T (is_sorted order (zip (remove fs k) (remove ss k))) = subst (λ (es : List (Text × Ids)). T (is_sorted order es)) (sym out) (is_sorted-where_key order (other_than q) (zip fs ss) are.rising) in (
       record {
         as_many = omega (arith, many, length-remove fs k lt, length-remove ss k (omega (arith, many)));
-        few = omega (arith, length-remove fs k lt);
         rising = up;
       },
       map.same_map nat_list_cmp_total (slice_cmp-IsAntisymmetric nat_cmp-IsAntisymmetric) (map_of (remove fs k) (remove ss k)) (map.remove (map_of fs ss) q) (λ x.
@@ -145,12 +142,12 @@ pub has_rule : (fs : List Text) (ss : List Ids) (q : Text) (rules : RuleMap) (k 
 has_rule fs ss q rules k are view spot = (get_or ss k [], ap (λ (r : RuleMap). rule_at r q) (sym view) ∙ found_at fs ss q k are spot)
 
 -- both lists after an entry is put in
-pub put_lists : (fs gs hs : List Text) (ss ts us : List Ids) (q p : Text) (v : Ids) (i : ℕ) (rules : RuleMap) → AreEntries fs ss → map_of fs ss ≡ rules → IsSpot fs q (Before i) → length fs < 512
+pub put_lists : (fs gs hs : List Text) (ss ts us : List Ids) (q p : Text) (v : Ids) (i : ℕ) (rules : RuleMap) → AreEntries fs ss → map_of fs ss ≡ rules → IsSpot fs q (Before i)
     → gs ≡ fs → ts ≡ ss → p ≡ q → hs ≡ insert gs i p → us ≡ insert ts i v → AreEntries hs us × (map_of hs us ≡ map.insert rules q v)
-put_lists fs gs hs ss ts us q p v i rules are view spot room gs_is ts_is p_is hs_is us_is =
+put_lists fs gs hs ss ts us q p v i rules are view spot gs_is ts_is p_is hs_is us_is =
     let folders : insert fs i q ≡ hs = sym (hs_is ∙ (λ j. insert (gs_is j) i (p_is j))) in
     let sets : insert ss i v ≡ us = sym (us_is ∙ (λ j. insert (ts_is j) i v)) in
-    let put = put_there fs ss q v i are spot room in (
+    let put = put_there fs ss q v i are spot in (
       subst (λ (l : List Text). AreEntries l us) folders (subst (λ (l : List Ids). AreEntries (insert fs i q) l) sets put.0),
       sym (λ j. map_of (folders j) (sets j)) ∙ (put.1 ∙ ap (λ (r : RuleMap). map.insert r q v) view),
     )

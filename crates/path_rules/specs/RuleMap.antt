@@ -29,10 +29,9 @@ HasRule rules folder = (ids : Ids) × (rule_at rules folder ≡ Some ids)
 abbrev pub map_of : List Text → List Ids → RuleMap
 map_of folders sets = map.from_sorted {R = slice_cmp nat_cmp} (zip folders sets)
 
--- the lists are as long, at most 512, and the folders rise
+-- the lists are as long, and the folders rise
 pub record AreEntries (folders : List Text) (sets : List Ids) : Type 0 where
   pub as_many : length sets ≡ length folders
-  pub few : length folders ≤ 512
   pub rising : T (is_sorted (slice_cmp nat_cmp) (zip folders sets))
 
 -- where a folder stands in such a list: at an index, or before the first that is above it

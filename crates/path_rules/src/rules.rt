@@ -1,6 +1,6 @@
 //! The rules of a store: folders, and the recipients of what is below each.
 
-ghost use Rattle.std.specs.Prelude.{◌≡◌, ◌<◌, ℕ, length, None, Some, option_map, IfOk};
+ghost use Rattle.std.specs.Prelude.{◌≡◌, ◌<◌, ℕ, length, None, Some, option_map, IfOk, OnOk, OnErr};
 ghost use Rattle.std.specs.FinMap as map;
 ghost use Rattle.gopass_base.specs.Parts.{parts};
 ghost use Rattle.mount_table.specs.NameFaults.{start_of};
@@ -79,14 +79,27 @@ impl Rules {
         ensures { SetsRule folder.now ids self.old self.new result }
     {
         match spot_of(&self.folders, folder.text().as_bytes()) {
+            Spot::At(_) => Ok(self.put(folder, ids)?),
+            Spot::Before(_) => {
+                if self.folders.len() >= MOST_RULES {
+                    return Err(RulesFault::Full);
+                }
+                Ok(self.put(folder, ids)?)
+            }
+        }
+    }
+
+    /// The same without a limit, for whoever sets several rules and keeps the limit over all of them.
+    pub fn put(&mut self, folder: &Folder, ids: Recipients) -> Result<(), NoRoom>
+        ensures put { OnOk result (self.new ≡ map.insert self.old folder.now ids) }
+        ensures same { OnErr result (self.new ≡ self.old) }
+    {
+        match spot_of(&self.folders, folder.text().as_bytes()) {
             Spot::At(index) => {
                 self.sets[index] = ids;
                 Ok(())
             }
             Spot::Before(index) => {
-                if self.folders.len() >= MOST_RULES {
-                    return Err(RulesFault::Full);
-                }
                 let folder = make_room(&mut self.folders, &mut self.sets, folder)?;
                 put_in(&mut self.folders, &mut self.sets, index, folder, ids);
                 Ok(())

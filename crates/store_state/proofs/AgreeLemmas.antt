@@ -15,14 +15,16 @@ use Rattle.mount_table.specs.MountOf.{mount_of}
 use Rattle.mount_table.proofs.MountLemmas.{one_row}
 use Rattle.mount_table.proofs.MountOfLemmas.{mount_computed}
 use Rattle.disk_model.specs.Files.{Files}
+use Rattle.path_rules.specs.RuleMap.{RuleMap}
 use Rattle.cipher_port.specs.Tool.{Opens}
 use Rattle.store_state.specs.declared.opening.Found.{Found}
 use Rattle.gopass_base.specs.Order.{IsRising, TextMap}
 use Rattle.store_state.specs.State.{Cell, State, StandsFor, AreMounts, mounts_path}
 use Rattle.store_state.specs.Opening.{IsFound}
+use Rattle.store_state.specs.Agrees.{Agrees}
 use Rattle.store_state.proofs.OpeningLemmas.{table_of}
 use Rattle.store_state.proofs.StateLemmas.{one_state}
-use Rattle.store_state.proofs.StandsLemmas.{found_state, found_stands, found_keys, found_mounts, found_rules, found_sizes}
+use Rattle.store_state.proofs.StandsLemmas.{found_state, found_stands, found_keys, found_mounts, found_rules, found_sizes, found_templates, found_strange, found_shadowed, found_folders}
 use Rattle.store_state.proofs.KeyLemmas.{keys_rise}
 
 row_code : Coded Row
@@ -47,6 +49,34 @@ module _ (opens : Opens) (root : Text) (files : Files) (found : Found) (state : 
   -- and the numbers of files below the directories of its mounts
   pub sizes_agree : state.sizes ≡ found.counts.items
   sizes_agree = ∥∥₁_elim is (Coded-set (coded_list coded_ℕ) state.sizes found.counts.items) (λ here. ap (λ (s : State). s.sizes) (state_is here) ∙ found_sizes opens root files found here.table here)
+
+  -- and the folders of its templates
+  pub templates_agree : map.keys state.templates ≡ found.seen.templates.items
+  templates_agree = ∥∥₁_elim is (Coded-set (coded_list (coded_list coded_ℕ)) (map.keys state.templates) found.seen.templates.items) (λ here. ap (λ (s : State). map.keys s.templates) (state_is here) ∙ found_templates opens root files found here.table here)
+
+  -- and its strange and its shadowed paths
+  pub strange_agrees : state.strange ≡ found.seen.strange.items
+  strange_agrees = ∥∥₁_elim is (Coded-set (coded_list (coded_list coded_ℕ)) state.strange found.seen.strange.items) (λ here. ap (λ (s : State). s.strange) (state_is here) ∙ found_strange opens root files found here.table here)
+
+  pub shadowed_agrees : state.shadowed ≡ found.seen.shadowed.items
+  shadowed_agrees = ∥∥₁_elim is (Coded-set (coded_list (coded_list coded_ℕ)) state.shadowed found.seen.shadowed.items) (λ here. ap (λ (s : State). s.shadowed) (state_is here) ∙ found_shadowed opens root files found here.table here)
+
+  -- and the folders of its rules
+  pub folders_agree : map.keys state.rules ≡ found.seen.rules.items
+  folders_agree = ∥∥₁_elim is (Coded-set (coded_list (coded_list coded_ℕ)) (map.keys state.rules) found.seen.rules.items) (λ here. ap (λ (s : State). map.keys s.rules) (state_is here) ∙ (ap (λ (rules : RuleMap). map.keys rules) (found_rules opens root files found here.table here) ∙ found_folders opens root files found here.table here))
+
+  -- what was found is what the state has
+  pub agrees : Agrees state found
+  agrees = record {
+    mounts = mounts_agree;
+    rules = rules_agree;
+    names = keys_agree;
+    folders = folders_agree;
+    templates = templates_agree;
+    strange = strange_agrees;
+    shadowed = shadowed_agrees;
+    sizes = sizes_agree;
+  }
 
   -- the row of a mount is the one that is computed
   pub row_agrees : (name : Text) (row : ℕ) → IsMountOf found.mounts name row → row ≡ mount_of found.mounts name

@@ -249,8 +249,8 @@ module _ (root : Text) (files : Files) (mounts : List Row) (k : ℕ) (folder fil
     ]
   ]
 
-  no_service : is_service root (folder_path mounts k folder file) ≡ false
-  no_service = false_from_ne_true (is_service root (folder_path mounts k folder file)) (by (rest_in root (folder_path mounts k folder file)) refl)
+  pub folder_file_plain : is_service root (folder_path mounts k folder file) ≡ false
+  folder_file_plain = false_from_ne_true (is_service root (folder_path mounts k folder file)) (by (rest_in root (folder_path mounts k folder file)) refl)
     where
       by : (r : Option Text) → rest_in root (folder_path mounts k folder file) ≡ r → is_service_rest r ≡ true → ⊥
       by None whole e = cc
@@ -264,7 +264,7 @@ module _ (root : Text) (files : Files) (mounts : List Row) (k : ℕ) (folder fil
 
   -- the vault shows it
   pub folder_file_shown : without_service root files (folder_path mounts k folder file) ≡ files (folder_path mounts k folder file)
-  folder_file_shown = ap (λ (t : Bool). if t then None else files (folder_path mounts k folder file)) no_service
+  folder_file_shown = ap (λ (t : Bool). if t then None else files (folder_path mounts k folder file)) folder_file_plain
 
   -- and it is none of the files that an opening reads by itself
   pub folder_file_stays : tree_files root files (folder_path mounts k folder file) ≡ files (folder_path mounts k folder file)

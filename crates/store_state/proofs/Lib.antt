@@ -19,3 +19,6 @@ pub mod StandsLemmas
 pub mod AgreeLemmas
 pub mod PlaceLemmas
 pub mod OpenLemmas
+pub mod SecretLemmas
+pub mod FolderMountLemmas
+pub mod FoundLemmas

@@ -14,21 +14,23 @@ use Rattle.mount_table.specs.Mounts.{IsTable}
 use Rattle.disk_model.specs.Files.{Files}
 use Rattle.pending_journal.specs.Service.{without_service}
 use Rattle.cipher_port.specs.Tool.{Opens}
-use Rattle.recipient_files.proofs.SetLemmas.{is_among_tells}
+use Rattle.recipient_files.specs.Ids.{Ids}
+use Rattle.recipient_files.proofs.SetLemmas.{is_among_tells, one_set}
 use Rattle.store_state.specs.declared.kind.Kind.{Kind}
 use Rattle.store_state.specs.declared.kind.Kind.TheVariants.{Rule, Template}
 use Rattle.store_state.specs.declared.opening.Found.{Found}
 use Rattle.store_state.specs.Places.{IsFolderOf, rule_path, secret_path, template_path}
-use Rattle.path_rules.specs.RuleMap.{rule_at}
+use Rattle.path_rules.specs.RuleMap.{RuleMap, rule_at}
 use Rattle.store_state.specs.RuleFiles.{IsRuleOf}
 use Rattle.store_state.proofs.RuleLemmas.{path_of_rule, folder_of_rule, rule_lies_as, rule_lies_in, rule_shown, rule_stays}
 use Rattle.store_state.specs.Found.{LiesAs}
 use Rattle.store_state.specs.Tree.{tree_files}
 use Rattle.store_state.specs.State.{Cell, State, StandsFor, IsPlaced, cell_of, is_outside, mounts_path}
 use Rattle.store_state.specs.Opening.{IsFound}
+use Rattle.store_state.specs.Agrees.{Agrees}
 use Rattle.store_state.proofs.KindLemmas.{one_folder_row}
 use Rattle.store_state.proofs.TableLemmas.{finds, keys_tabled, sorted_tabled, tabled, values_of, value_there, key_of_value}
-use Rattle.store_state.proofs.KeyLemmas.{few_keys, length-keys, row_there}
+use Rattle.store_state.proofs.KeyLemmas.{few_keys, key_there, keys_rise, length-keys, row_there}
 use Rattle.store_state.proofs.NameLemmas.{names_found}
 use Rattle.store_state.proofs.TemplateLemmas.{path_of_template, folder_of_template, template_lies_as, template_lies_in, template_stays}
 
@@ -123,6 +125,8 @@ module _ (opens : Opens) (root : Text) (files : Files) (found : Found) (table : 
     templates = map.from_sorted (tabled found.seen.templates.items bytes_at);
     sizes = found.counts.items;
     rest = rest_at;
+    strange = found.seen.strange.items;
+    shadowed = found.seen.shadowed.items;
   }
 
   by_none : (file : Option Text) → ((bytes : Text) → file ≡ Some bytes → ⊥) → file ≡ None
@@ -258,6 +262,22 @@ module _ (opens : Opens) (root : Text) (files : Files) (found : Found) (table : 
       no_some : {X : Type 0} {x : X} → None ≡ Some x → ⊥
       no_some e = cc
 
+  -- and one that has a file has one
+  rule_keyed : (folder : Text) → Contains found.seen.rules.items folder → Contains (map.keys found.rules) folder
+  rule_keyed folder has =
+      let t = (is.survey.found.rules folder).0 has in
+      let lies = subst (λ (w : Kind). LiesAs found.mounts t.0 w t.1) t.7 t.6 in
+      let own = folder_of_rule found.mounts t.0 t.1 folder lies in
+      let file : files (rule_path found.mounts t.0 folder) ≡ Some t.5.0 = sym (rule_stays root files found.mounts t.0 folder table own) ∙ (ap (tree_files root files) (sym (path_of_rule found.mounts t.0 t.1 folder lies)) ∙ t.5.1) in
+      keyed t.5.0 (rule_at found.rules folder) refl (subst (λ (f : Option Text). IsRuleOf f (rule_at found.rules folder)) file (ruled folder t.0 (is_among found.seen.rules.items folder) own refl))
+    where
+      keyed : (bytes : Text) (rule : Option Ids) → rule_at found.rules folder ≡ rule → IsRuleOf (Some bytes) rule → Contains (map.keys found.rules) folder
+      keyed bytes None e told = absurd told
+      keyed bytes (Some ids) e told = key_there found.rules folder ids e
+
+  pub found_folders : map.keys found.rules ≡ found.seen.rules.items
+  found_folders = one_set (map.keys found.rules) found.seen.rules.items (keys_rise found.rules) is.rising.rules (λ folder. (rule_listed folder (is_among found.seen.rules.items folder) refl, rule_keyed folder))
+
   few_rules : map.len found.rules ≤ 512
   few_rules = omega (arith, is.few_rules, few_keys found.rules found.seen.rules.items is.rising.rules (λ folder. rule_listed folder (is_among found.seen.rules.items folder) refl))
 
@@ -279,6 +299,7 @@ module _ (opens : Opens) (root : Text) (files : Files) (found : Found) (table : 
     };
     sizes_are = record { as_many = is.survey.as_many; each = is.survey.each };
     rest = record { owned = owned_is; outside = outside_is; other = other_is };
+    apart = record { strange = is.survey.found.strange; strange_rise = is.rising.strange; shadowed = is.survey.found.shadowed; shadowed_rise = is.rising.shadowed };
     limits = record { no_pending = is.no_pending; few_rules = few_rules; few_secrets = few_secrets };
   }
 
@@ -293,3 +314,27 @@ module _ (opens : Opens) (root : Text) (files : Files) (found : Found) (table : 
   pub found_sizes : found_state.sizes ≡ found.counts.items
   unfolding found_state
   found_sizes = refl
+
+  pub found_templates : map.keys found_state.templates ≡ found.seen.templates.items
+  unfolding found_state
+  found_templates = ap (each (λ (e : Text × Text). e.0)) (map.entries-from_sorted (slice_cmp nat_cmp) (tabled found.seen.templates.items bytes_at) (sorted_tabled found.seen.templates.items bytes_at is.rising.templates)) ∙ keys_tabled found.seen.templates.items bytes_at
+
+  pub found_strange : found_state.strange ≡ found.seen.strange.items
+  unfolding found_state
+  found_strange = refl
+
+  pub found_shadowed : found_state.shadowed ≡ found.seen.shadowed.items
+  unfolding found_state
+  found_shadowed = refl
+
+  pub found_agrees : Agrees found_state found
+  found_agrees = record {
+    mounts = found_mounts;
+    rules = found_rules;
+    names = found_keys;
+    folders = ap (λ (rules : RuleMap). map.keys rules) found_rules ∙ found_folders;
+    templates = found_templates;
+    strange = found_strange;
+    shadowed = found_shadowed;
+    sizes = found_sizes;
+  }

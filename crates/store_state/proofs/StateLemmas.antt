@@ -11,6 +11,7 @@ use Rattle.std.proofs.lemmas.Bool.{and_parts, false≢true}
 use Rattle.std.proofs.lemmas.Cmp.{nat_list_cmp_total}
 use Rattle.std.proofs.lemmas.Slice.Eq.{bytes_eq-Decides}
 use Rattle.gopass_base.specs.Text.{Text}
+use Rattle.gopass_base.specs.Order.{IsRising}
 use Rattle.mount_table.specs.Names.{IsName}
 use Rattle.mount_table.specs.Mounts.{row_at}
 use Rattle.mount_table.specs.declared.mounts.Row.{Row}
@@ -23,7 +24,9 @@ use Rattle.recipient_files.proofs.SetLemmas.{one_set}
 use Rattle.store_state.specs.Places.{IsFolderOf, rule_path, secret_path, template_path}
 use Rattle.store_state.specs.RuleFiles.{IsRuleOf}
 use Rattle.store_state.specs.Tree.{tree_files}
-use Rattle.store_state.specs.Survey.{IsCountOf}
+use Rattle.store_state.specs.Survey.{IsCountOf, IsOfFiles}
+use Rattle.store_state.specs.Found.{GivesStrange, GivesShadowed}
+use Rattle.store_state.specs.declared.kind.Kind.{Kind}
 use Rattle.store_state.specs.State.{Cell, Sealed, Broken, State, AreMounts, AreSizes, IsPlaced, StandsFor, cell_of, is_outside, mounts_path}
 
 -- ---- values that tests tell apart
@@ -141,6 +144,13 @@ one_sizes opens root files a b same h k =
     (let inside : n < length a.mounts = omega (arith, lt, h.sizes_are.as_many) in
     one_count root files a.mounts n (slice_index_or a.sizes n 0) (slice_index_or b.sizes n 0) (h.sizes_are.each n inside) (theirs.each n inside)))
 
+-- two rising lists of what the files give are the same
+one_apart : (Gives : Kind → Text → Text → Type 0) (root : Text) (files : Files) (m n : List Row) (xs ys : List Text) → m ≡ n → IsRising xs → IsRising ys
+    → IsOfFiles Gives root files m (length m) xs → IsOfFiles Gives root files n (length n) ys → xs ≡ ys
+one_apart Gives root files m n xs ys same up upper a b =
+    let theirs = subst (λ (mounts : List Row). IsOfFiles Gives root files mounts (length mounts) ys) (sym same) b in
+    one_set xs ys up upper (λ path. (λ has. (theirs path).1 ((a path).0 has), λ has. (a path).1 ((theirs path).0 has)))
+
 pub one_state : (opens : Opens) (root : Text) (files : Files) (a b : State) → StandsFor opens root files a → StandsFor opens root files b → a ≡ b
 one_state opens root files a b h k =
     let mounts = one_table root (files (mounts_path root)) a.mounts b.mounts h.mounts_are k.mounts_are in
@@ -149,4 +159,6 @@ one_state opens root files a b h k =
     let templates = one_templates opens root files a b mounts h k in
     let sizes = one_sizes opens root files a b mounts h k in
     let rest = one_rest opens root files a b mounts h k in
-    λ i. record { mounts = mounts i; rules = rules i; rows = rows i; templates = templates i; sizes = sizes i; rest = rest i }
+    let strange = one_apart GivesStrange root files a.mounts b.mounts a.strange b.strange mounts h.apart.strange_rise k.apart.strange_rise h.apart.strange k.apart.strange in
+    let shadowed = one_apart GivesShadowed root files a.mounts b.mounts a.shadowed b.shadowed mounts h.apart.shadowed_rise k.apart.shadowed_rise h.apart.shadowed k.apart.shadowed in
+    λ i. record { mounts = mounts i; rules = rules i; rows = rows i; templates = templates i; sizes = sizes i; rest = rest i; strange = strange i; shadowed = shadowed i }

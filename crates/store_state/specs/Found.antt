@@ -30,6 +30,14 @@ GivesStrange kind path strange = (kind ≡ Strange) × (path ≡ strange)
 abbrev pub GivesShadowed : Kind → (path shadowed : Text) → Type 0
 GivesShadowed kind path shadowed = (kind ≡ Shadowed) × (path ≡ shadowed)
 
+-- the same lists
+pub record IsSameSeen (old new : Seen) : Type 0 where
+  pub names : new.names.items ≡ old.names.items
+  pub rules : new.rules.items ≡ old.rules.items
+  pub templates : new.templates.items ≡ old.templates.items
+  pub strange : new.strange.items ≡ old.strange.items
+  pub shadowed : new.shadowed.items ≡ old.shadowed.items
+
 -- ---- what one path adds
 
 abbrev pub name_in : Kind → List Text

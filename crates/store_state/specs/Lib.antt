@@ -7,3 +7,4 @@ pub mod Survey
 pub mod Opening
 pub mod Order
 pub mod Faults
+pub mod Agrees

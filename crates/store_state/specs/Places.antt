@@ -1,11 +1,11 @@
 -- Where the secrets, rules and templates of a store lie, and what its directories have beside them.
-use Rattle.std.specs.Prelude.{◌≡◌, ◌⊎◌, ℕ, ◌+◌, List, [], ◌∷◌, ◌++◌, length, drop, codes, All}
+use Rattle.std.specs.Prelude.{◌≡◌, ◌⊎◌, ℕ, ◌+◌, Bool, true, false, ◌&&◌, List, [], ◌∷◌, ◌++◌, length, drop, codes, bytes_eq, All, if◌then◌else◌}
 use Rattle.gopass_base.specs.Text.{Text}
 use Rattle.gopass_base.specs.Parts.{parts, IsHidden}
 use Rattle.mount_table.specs.Names.{IsName}
 use Rattle.mount_table.specs.Folders.{IsFolder}
 use Rattle.gopass_base.specs.Paths.{path_in, file_of}
-use Rattle.mount_table.specs.Prefixes.{rest_start}
+use Rattle.mount_table.specs.Prefixes.{folder_parts, rest_start}
 use Rattle.mount_table.specs.Mounts.{row_at, IsMountOf, IsMountOfFolder}
 use Rattle.mount_table.specs.MountOf.{mount_of}
 use Rattle.mount_table.specs.declared.mounts.Row.{Row}
@@ -78,6 +78,27 @@ IsKind mounts k rest Shadowed =
     ⊎ ((folder : Text) × IsRuleOrTemplate (row_at mounts k).alias rest folder × ¬ IsMountOfFolder mounts folder k)
 IsKind mounts k rest Hidden = HasHidden rest × ((folder : Text) → ¬ IsRuleOrTemplate (row_at mounts k).alias rest folder)
 IsKind mounts k rest Strange = (¬ HasHidden rest) × ((name : Text) → ¬ IsSecretAt (row_at mounts k).alias rest name)
+
+-- ---- the mount of a folder, computed row by row
+
+-- whether ps is how qs begins
+abbrev pub is_prefix : List Text → List Text → Bool
+is_prefix [] qs = true
+is_prefix (p ∷ ps) [] = false
+is_prefix (p ∷ ps) (q ∷ qs) = bytes_eq p q && is_prefix ps qs
+
+-- whether the alias is the folder, or lies above it
+abbrev pub reaches : (alias folder : Text) → Bool
+reaches alias folder = is_prefix (folder_parts alias) (folder_parts folder)
+
+-- the last of these rows whose alias reaches the folder, where the first of them has the number `at`; or else `last`
+abbrev pub last_that_reaches : List Row → Text → (at last : ℕ) → ℕ
+last_that_reaches [] folder at last = last
+last_that_reaches (row ∷ rows) folder at last = last_that_reaches rows folder (at + 1) (if reaches row.alias folder then at else last)
+
+-- since aliases rise, the last row whose alias reaches the folder is the one with the most parts
+abbrev pub folder_mount : List Row → Text → ℕ
+folder_mount rows folder = last_that_reaches rows folder 0 0
 
 -- ---- the files of a folder
 

@@ -2,7 +2,7 @@
 use Rattle.std.specs.Prelude.{◌≡◌, ◌⊎◌, ◌<◌, ◌≤◌, ℕ, Bool, ◌||◌, List, [], ◌∷◌, length, slice_index_or, Option, None, Some, option_map, IsTrue, IsFalse}
 use Rattle.std.specs.FinMap as map
 use Rattle.gopass_base.specs.Text.{Text}
-use Rattle.gopass_base.specs.Order.{TextMap}
+use Rattle.gopass_base.specs.Order.{TextMap, IsRising}
 use Rattle.mount_table.specs.Names.{IsName}
 use Rattle.gopass_base.specs.Paths.{path_in, service_text}
 use Rattle.mount_table.specs.Mounts.{IsTable, new_row}
@@ -16,7 +16,8 @@ use Rattle.cipher_port.specs.Tool.{Content, Opens}
 use Rattle.path_rules.specs.RuleMap.{RuleMap, rule_at}
 use Rattle.store_state.specs.Places.{secret_path, rule_path, template_path, IsFolderOf}
 use Rattle.store_state.specs.RuleFiles.{IsRuleOf}
-use Rattle.store_state.specs.Survey.{IsCountOf}
+use Rattle.store_state.specs.Found.{GivesStrange, GivesShadowed}
+use Rattle.store_state.specs.Survey.{IsCountOf, IsOfFiles}
 
 -- what the file of a secret holds: sealed content, or bytes that are not sealed
 pub data Cell : Type 0 where
@@ -31,7 +32,8 @@ abbrev pub cell_of : Opens → Text → Cell
 cell_of opens bytes = cell_with (opens bytes) bytes
 
 -- the mounts; the rules, each under its folder; the secrets, each under its name; the templates, each under its folder; how
--- many files lie below the directory of each mount; and the bytes at each other path of the store
+-- many files lie below the directory of each mount; the bytes at each other path of the store; and of these paths those that
+-- are strange, and those whose secret, rule or template belongs to another mount
 pub record State : Type 0 where
   pub mounts : List Row
   pub rules : RuleMap
@@ -39,6 +41,8 @@ pub record State : Type 0 where
   pub templates : TextMap Text
   pub sizes : List ℕ
   pub rest : Files
+  pub strange : List Text
+  pub shadowed : List Text
 
 -- the mounts that a mounts file tells, or the root's row alone where there is none
 abbrev pub AreMounts : (root : Text) → Option Text → List Row → Type 0
@@ -88,6 +92,13 @@ pub record RestStands (root : Text) (files : Files) (state : State) : Type 0 whe
   pub outside : (path : Text) → IsTrue (is_outside root path) → state.rest path ≡ None
   pub other : (path : Text) → ¬ IsPlaced root state.mounts path → IsFalse (is_outside root path) → state.rest path ≡ files path
 
+-- the paths below the mounts that are strange, and those that are shadowed, by their bytes
+pub record ApartStand (root : Text) (files : Files) (state : State) : Type 0 where
+  pub strange : IsOfFiles GivesStrange root files state.mounts (length state.mounts) state.strange
+  pub strange_rise : IsRising state.strange
+  pub shadowed : IsOfFiles GivesShadowed root files state.mounts (length state.mounts) state.shadowed
+  pub shadowed_rise : IsRising state.shadowed
+
 -- the store opens: it has no pending file, at most 512 rules and at most 8,192 secrets
 pub record KeepsLimits (root : Text) (files : Files) (state : State) : Type 0 where
   pub no_pending : files (pending_path root) ≡ None
@@ -103,4 +114,5 @@ pub record StandsFor (opens : Opens) (root : Text) (files : Files) (state : Stat
   pub templates : TemplatesStand files state
   pub sizes_are : AreSizes root files state.mounts state.sizes
   pub rest : RestStands root files state
+  pub apart : ApartStand root files state
   pub limits : KeepsLimits root files state

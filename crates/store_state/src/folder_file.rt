@@ -4,7 +4,8 @@ ghost use Rattle.std.specs.Prelude.{◌≡◌, ℕ, IfOk, string_bytes};
 ghost use Rattle.mount_table.specs.Mounts.{IsMountOfFolder};
 ghost use Rattle.gopass_base.specs.Paths.{path_in};
 ghost use Rattle.mount_table.specs.Prefixes.{IsPrefix, folder_parts};
-ghost use Rattle.store_state.specs.Places.{IsFolderFile, folder_path, folder_rest, in_folder};
+ghost use Rattle.mount_table.specs.Folders.{IsFolder};
+ghost use Rattle.store_state.specs.Places.{IsFolderFile, folder_mount, folder_path, folder_rest, in_folder, rule_path, template_path};
 
 use disk_model::rest_in;
 use gopass_base::NoMemory;
@@ -47,6 +48,32 @@ fn file_below(alloc: Global, row: &Row, folder: &Folder, file: &str) -> Result<F
 {
     let rest = rest_below(row.alias.text(), folder.text());
     row.dir.file_at(alloc, &in_folder(alloc, rest, file)?)
+}
+
+/// The file of the folder's rule: `.gpg-id` in the folder, in the directory of its mount.
+pub fn rule_file_of(alloc: Global, mounts: &Mounts, folder: &Folder) -> Result<FilePath, NoMemory>
+    ensures path { IfOk result (λ path. path ≡ rule_path mounts.now (folder_mount mounts.now folder.now) folder.now) }
+    ensures good { IsFolder folder.now }
+{
+    // The folder is one, and the mounts are a table, in which it has one mount.
+    let _ = folder.text();
+    let _ = mounts.rows();
+    folder_file(alloc, mounts, folder, ".gpg-id")
+}
+
+/// The file of the folder's template: `.pass-template` in the folder.
+pub fn template_file_of(
+    alloc: Global,
+    mounts: &Mounts,
+    folder: &Folder,
+) -> Result<FilePath, NoMemory>
+    ensures path { IfOk result (λ path. path ≡ template_path mounts.now (folder_mount mounts.now folder.now) folder.now) }
+    ensures good { IsFolder folder.now }
+{
+    // The folder is one, and the mounts are a table, in which it has one mount.
+    let _ = folder.text();
+    let _ = mounts.rows();
+    folder_file(alloc, mounts, folder, ".pass-template")
 }
 
 /// The path of the folder's file of this name, that of its rule or its template: the directory of

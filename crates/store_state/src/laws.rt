@@ -1,12 +1,13 @@
 //! What the files of a store stand for, and what its opening means.
 
 ghost use Rattle.std.specs.Prelude.{◌≡◌, ◌↔◌, Contains, Err};
-ghost use Rattle.std.specs.FinMap as map;
 ghost use Rattle.gopass_base.specs.Text.{Text};
 ghost use Rattle.mount_table.specs.Names.{IsName};
 ghost use Rattle.disk_model.specs.Files.{Files};
 ghost use Rattle.disk_model.specs.Listing.{IsThere};
 ghost use Rattle.cipher_port.specs.Tool.{Opens};
+ghost use Rattle.mount_table.specs.Mounts.{IsTable};
+ghost use Rattle.store_state.specs.Agrees.{Agrees};
 ghost use Rattle.store_state.specs.Places.{secret_path};
 ghost use Rattle.store_state.specs.State.{State, StandsFor};
 ghost use Rattle.store_state.specs.Faults.{IsFileFault};
@@ -31,9 +32,15 @@ pub fn names_of_secrets()
         → (name : Text) → Contains found.seen.names.items name ↔ (IsName name × IsThere files (secret_path found.mounts name)) }
 {}
 
-/// The files of a store that opens stand for a state, whatever the tool opens: its mounts, its
-/// rules and the names of its secrets are those that the opening found.
+/// The files of a store that opens stand for a state, whatever the tool opens, and what the opening
+/// found is what that state has.
 pub fn state_of_store()
     ensures { (opens : Opens) (root : Text) (files : Files) (found : Found) → IsFound root files found
-        → (state : State) × StandsFor opens root files state × (state.mounts ≡ found.mounts) × (state.rules ≡ found.rules) × (map.keys state.rows ≡ found.seen.names.items) }
+        → (state : State) × StandsFor opens root files state × Agrees state found }
+{}
+
+/// What a state has for which the files stand is what an opening finds of them.
+pub fn found_of_state()
+    ensures { (opens : Opens) (root : Text) (files : Files) (state : State) → StandsFor opens root files state → IsTable root state.mounts
+        → (found : Found) → Agrees state found → IsFound root files found }
 {}

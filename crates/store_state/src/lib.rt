@@ -12,8 +12,9 @@ mod seen;
 mod tree;
 
 pub use fault::{Limit, StoreFault};
+pub use folder_file::{rule_file_of, template_file_of};
 pub use kind::Kind;
-pub use laws::{names_of_secrets, one_state, state_of_store, states_open};
+pub use laws::{found_of_state, names_of_secrets, one_state, state_of_store, states_open};
 pub use opening::{Found, MOST_SECRETS, find};
 pub use seen::Seen;
 pub use tree::MOST_FILES;

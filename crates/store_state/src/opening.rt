@@ -10,6 +10,7 @@ ghost use Rattle.pending_journal.specs.Service.{is_service, without_service};
 ghost use Rattle.store_state.specs.Tree.{IsOwnOf};
 ghost use Rattle.store_state.specs.State.{mounts_path, pending_path};
 ghost use Rattle.store_state.specs.Order.{IsOrdered};
+ghost use Rattle.store_state.specs.Found.{IsSameSeen};
 ghost use Rattle.store_state.specs.Opening.{IsWithinLimits, OpensStore, TellsMounts, TellsPending};
 
 use crate::fault::{Limit, StoreFault};
@@ -17,7 +18,7 @@ use crate::rule_files::read_rules;
 use crate::seen::{Seen, survey};
 use crate::tree::Own;
 use disk_model::{Disk, DiskFault, Got};
-use gopass_base::in_order;
+use gopass_base::{NoMemory, copies, in_order};
 use mount_table::{DirPath, FilePath, Mounts, MountsFault};
 use path_rules::{MOST_RULES, Rules};
 use pending_journal::Vault;
@@ -128,6 +129,24 @@ pub struct Found {
     pub rules: Rules,
     pub seen: Seen,
     pub counts: Vec<usize>,
+}
+
+impl Found {
+    /// The same once more.
+    pub fn copy(&self) -> Result<Found, NoMemory>
+        ensures mounts { IfOk result (λ copy. copy.mounts ≡ self.now.mounts) }
+        ensures rules { IfOk result (λ copy. copy.rules ≡ self.now.rules) }
+        ensures seen { IfOk result (λ copy. IsSameSeen self.now.seen copy.seen) }
+        ensures counts { IfOk result (λ copy. copy.counts.items ≡ self.now.counts.items) }
+    {
+        let alloc = *self.counts.allocator();
+        Ok(Found {
+            mounts: self.mounts.copy()?,
+            rules: self.rules.copy()?,
+            seen: self.seen.copy(alloc)?,
+            counts: copies(alloc, &self.counts)?,
+        })
+    }
 }
 
 /// The lists in rising order, each item once.

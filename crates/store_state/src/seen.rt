@@ -8,14 +8,14 @@ ghost use Rattle.pending_journal.specs.Opened.{IsSameVault};
 ghost use Rattle.store_state.specs.Faults.{GivesOrFull};
 ghost use Rattle.store_state.specs.Tree.{IsFullTree, IsOwnOf};
 ghost use Rattle.store_state.specs.Survey.{IsFullMount, IsMountSeen, IsSurvey};
-ghost use Rattle.store_state.specs.Found.{AllLieBelow, LiesBelow, AddsPaths, IsWith, LiesAs};
+ghost use Rattle.store_state.specs.Found.{AllLieBelow, LiesBelow, AddsPaths, IsSameSeen, IsWith, LiesAs};
 ghost use Rattle.store_state.specs.declared.kind.Kind.{Kind as What};
 
 use crate::fault::StoreFault;
 use crate::kind::{Kind, kind_of};
 use crate::tree::{Own, list_tree};
 use disk_model::{Disk, rest_in};
-use gopass_base::NoMemory;
+use gopass_base::{NoMemory, copies};
 use mount_table::{FilePath, Folder, Mounts, Name};
 use pending_journal::Vault;
 use std::alloc::Global;
@@ -46,6 +46,21 @@ impl Seen {
             strange: Vec::new(alloc),
             shadowed: Vec::new(alloc),
         }
+    }
+}
+
+impl Seen {
+    /// The same lists once more.
+    pub(crate) fn copy(&self, alloc: Global) -> Result<Seen, NoMemory>
+        ensures { IfOk result (IsSameSeen self.now) }
+    {
+        Ok(Seen {
+            names: copies(alloc, &self.names)?,
+            rules: copies(alloc, &self.rules)?,
+            templates: copies(alloc, &self.templates)?,
+            strange: copies(alloc, &self.strange)?,
+            shadowed: copies(alloc, &self.shadowed)?,
+        })
     }
 }
 
