@@ -8,12 +8,13 @@ use Rattle.path_rules.specs.Governing.{governing_ids}
 use Rattle.disk_model.proofs.FileLemmas.{cases_path}
 use Rattle.store_state.specs.declared.fault.Limit.{Limit}
 use Rattle.store_state.specs.State.{State, Cell, Sealed}
-use Rattle.store_core.specs.Said.{refused, answers, answers_by_tool}
-use Rattle.store_core.specs.Texts.{is_there_already, tool_failed}
+use Rattle.store_core.specs.Plans.{Refused, answers, answers_by_tool}
 use Rattle.store_core.specs.Events.{Events, is_refused}
-use Rattle.store_core.specs.Insert.{has_secret, with_cell, passed_by, insert_sealed, insert_within, insert_ruled, plan_insert}
+use Rattle.store_core.specs.Insert.{with_cell, passed_by, insert_sealed, insert_within, insert_ruled, plan_insert}
+use Rattle.store_core.specs.Edit.{has_secret}
+use Rattle.store_core.specs.declared.refusal.Refusal.TheVariants.{Tool, Exists}
 use Rattle.store_core.specs.Kept.{IsMadeFor, IsKept, AreAllKept}
-use Rattle.store_core.proofs.InsertLemmas.{insert_here, insert_apart}
+use Rattle.store_state.proofs.SecretLemmas.{insert_here, insert_apart}
 
 -- ---- no state, and one state
 
@@ -27,15 +28,18 @@ one_kept state kept other (suc i, lt, at) = absurd (omega (arith, lt))
 -- ---- a secret sealed for the ids that govern it
 
 pub sealed_kept : (name body : Text) (ids : Ids) (state : State) → governing_ids state.rules state.mounts name ≡ Some ids → IsKept state → IsKept (with_cell name (Sealed (made_of ids body)) state)
-sealed_kept name body ids state ruled kept q cell at = elim (cases_path name q) [
-  | inl same ↦ (
-      let here : map.get (map.insert state.rows name (Sealed (made_of ids body))) name ≡ Some cell = subst (λ (t : Text). map.get (map.insert state.rows name (Sealed (made_of ids body))) t ≡ Some cell) (sym same) at in
-      let is_cell : Some (Sealed (made_of ids body)) ≡ Some cell = sym (insert_here state.rows name (Sealed (made_of ids body))) ∙ here in
-      let is : Sealed (made_of ids body) ≡ cell = cc in
-      let made : IsMadeFor (governing_ids state.rules state.mounts name) (Sealed (made_of ids body)) = subst (λ (rule : Option Ids). IsMadeFor rule (Sealed (made_of ids body))) (sym ruled) refl in
-      subst (λ (t : Text). IsMadeFor (governing_ids state.rules state.mounts t) cell) same (subst (λ (c : Cell). IsMadeFor (governing_ids state.rules state.mounts name) c) is made))
-  | inr apart ↦ kept q cell (sym (insert_apart state.rows name q (Sealed (made_of ids body)) apart) ∙ at)
-]
+sealed_kept name body ids state ruled kept = record {
+  made = λ q cell at. elim (cases_path name q) [
+    | inl same ↦ (
+        let here : map.get (map.insert state.rows name (Sealed (made_of ids body))) name ≡ Some cell = subst (λ (t : Text). map.get (map.insert state.rows name (Sealed (made_of ids body))) t ≡ Some cell) (sym same) at in
+        let is_cell : Some (Sealed (made_of ids body)) ≡ Some cell = sym (insert_here state.rows name (Sealed (made_of ids body))) ∙ here in
+        let is : Sealed (made_of ids body) ≡ cell = cc in
+        let made : IsMadeFor (governing_ids state.rules state.mounts name) (Sealed (made_of ids body)) = subst (λ (rule : Option Ids). IsMadeFor rule (Sealed (made_of ids body))) (sym ruled) refl in
+        subst (λ (t : Text). IsMadeFor (governing_ids state.rules state.mounts t) cell) same (subst (λ (c : Cell). IsMadeFor (governing_ids state.rules state.mounts name) c) is made))
+    | inr apart ↦ kept.made q cell (sym (insert_apart state.rows name q (Sealed (made_of ids body)) apart) ∙ at)
+  ];
+  unshadowed = kept.unshadowed;
+}
 
 -- ---- each way through `insert`
 
@@ -47,14 +51,14 @@ module _ (ring : Ring) (name body : Text) (force : Bool) (state : State) (events
 
     by_limit : (limit : Option Limit) → AreAllKept (insert_within ring name body state events ids limit).states
     by_limit (Some limit) = none_kept
-    by_limit None = elim (is_refused name events) as (λ b. AreAllKept (cond b (answers_by_tool (refused 11 (tool_failed name))) (insert_sealed name body state ids (first_unknown ring ids))).states) [
+    by_limit None = elim (is_refused name events) as (λ b. AreAllKept (cond b (answers_by_tool (Refused (Tool name))) (insert_sealed name body state ids (first_unknown ring ids))).states) [
       | true ↦ none_kept
       | false ↦ by_unknown (first_unknown ring ids)
     ]
 
   by_rule : (rule : Option Ids) → governing_ids state.rules state.mounts name ≡ rule → AreAllKept (insert_ruled ring name body force state events rule).states
   by_rule None ruled = none_kept
-  by_rule (Some ids) ruled = elim (not force && has_secret state name) as (λ b. AreAllKept (cond b (answers (refused 4 (is_there_already name))) (insert_within ring name body state events ids (passed_by state name body))).states) [
+  by_rule (Some ids) ruled = elim (not force && has_secret state name) as (λ b. AreAllKept (cond b (answers (Refused (Exists name))) (insert_within ring name body state events ids (passed_by state name body))).states) [
     | true ↦ none_kept
     | false ↦ by_limit ids ruled (passed_by state name body)
   ]

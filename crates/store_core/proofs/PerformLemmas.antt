@@ -13,11 +13,11 @@ use Rattle.pending_journal.specs.Service.{is_service, journal_path}
 use Rattle.pending_journal.proofs.ServiceLemmas.{service_journal}
 use Rattle.pending_journal.proofs.RedoLemmas.{stands_none, without_none}
 use Rattle.store_state.specs.State.{State, StandsFor}
-use Rattle.store_core.specs.Said.{Said, Plan}
+use Rattle.store_core.specs.Plans.{Outcome, Plan}
 use Rattle.store_core.specs.Events.{Events, calm, refusing, Cause, TheDisk, Memory, Stop}
 use Rattle.store_core.specs.Moment.{Faults, Moment}
 use Rattle.store_core.specs.Elsewhere.{IsSameElsewhere}
-use Rattle.store_core.specs.Performs.{IsTied, Goes, LeftFor, Performs, cut_off, answered, stop_said}
+use Rattle.store_core.specs.Performs.{IsTied, Goes, LeftFor, Performs, cut_off, answered, stop_outcome}
 
 -- files without any of the vault's own stand for themselves
 pub stands_at_rest : (root : Text) (files : Files) → ((q : Text) → is_service root q ≡ true → files q ≡ None) → RecoversTo root files files
@@ -78,7 +78,7 @@ module _ (opens : Opens) (root : Text) (start : State) (plan : Events → Plan) 
   still_left : (m : Files) → new.view.images m → LeftFor opens root start m
   still_left m im = start_left m (still.rests.only m im)
 
-  goes_still : (states : List State) → Goes opens root start states 0 old new
+  pub goes_still : (states : List State) → Goes opens root start states 0 old new
   goes_still states = record {
     within = omega arith;
     counted = record { least = omega (arith, still.commits); most = omega (arith, still.commits) };
@@ -97,25 +97,25 @@ module _ (opens : Opens) (root : Text) (start : State) (plan : Events → Plan) 
   still_elsewhere paths = rests_elsewhere root paths old new still
 
   -- nothing is changed, and the plan has no states
-  pub quiet : (events : Events) (said : Said) (calls : ℕ) → IsTied old.faults new.faults events None → new.calls ≤ old.calls + calls
-      → plan events ≡ record { said = said; states = []; calls = calls; changes = []; records = [] } → Performs opens root plan start old new said
+  pub quiet : (events : Events) (said : Outcome) (calls : ℕ) → IsTied old.faults new.faults events None → new.calls ≤ old.calls + calls
+      → plan events ≡ record { outcome = said; states = []; calls = calls; changes = []; records = [] } → Performs opens root plan start old new said
   quiet events said calls tied few is = record {
     events = events;
     stop = None;
     tied = tied;
-    says = sym (ap (λ (p : Plan). p.said) is);
+    is = sym (ap (λ (p : Plan). p.outcome) is);
     goes = subst (λ (p : Plan). Goes opens root start p.states (length p.states) old new) (sym is) (goes_still []);
     calls = omega (arith, few, ap (λ (p : Plan). p.calls) is);
     elsewhere = still_elsewhere (plan events).changes;
   }
 
   -- the disk or want of memory stopped it before any commit
-  pub quiet_stop : (cause : Cause) → (cause ≡ TheDisk → Rose old.faults.disk new.faults.disk) → new.calls ≤ old.calls + (plan calm).calls → Performs opens root plan start old new (stop_said cause)
+  pub quiet_stop : (cause : Cause) → (cause ≡ TheDisk → Rose old.faults.disk new.faults.disk) → new.calls ≤ old.calls + (plan calm).calls → Performs opens root plan start old new (stop_outcome cause)
   quiet_stop cause tie few = record {
     events = calm;
     stop = Some (record { cause = cause; commits = 0 });
     tied = stopped_tied old.faults new.faults cause still.tools_later tie;
-    says = refl;
+    is = refl;
     goes = goes_still (take (0 + 1) (plan calm).states);
     calls = few;
     elsewhere = still_elsewhere (plan calm).changes;
@@ -127,13 +127,13 @@ cut_again : (stop : Option Stop) (p : Plan) → (cut_off stop p).states ≡ take
 cut_again None p = sym (take_all (length p.states + 1) p.states (omega arith))
 cut_again (Some stop) p = refl
 
-pub wants_memory : (opens : Opens) (root : Text) (start : State) (plan : Events → Plan) (old new : Moment) (said : Said)
-    → Performs opens root plan start old new said → Performs opens root plan start old new (stop_said Memory)
+pub wants_memory : (opens : Opens) (root : Text) (start : State) (plan : Events → Plan) (old new : Moment) (said : Outcome)
+    → Performs opens root plan start old new said → Performs opens root plan start old new (stop_outcome Memory)
 wants_memory opens root start plan old new said p = record {
   events = p.events;
   stop = Some (record { cause = Memory; commits = answered p.stop (plan p.events) });
   tied = record { tools = p.tied.tools; disk = λ n e. absurd (not_the_disk (answered p.stop (plan p.events)) n e) };
-  says = refl;
+  is = refl;
   goes = subst (λ (states : List State). Goes opens root start states (answered p.stop (plan p.events)) old new) (cut_again p.stop (plan p.events)) p.goes;
   calls = p.calls;
   elsewhere = p.elsewhere;

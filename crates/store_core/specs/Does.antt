@@ -1,21 +1,29 @@
 -- What the function of a command ensures.
 use Rattle.std.specs.Prelude.{◌≡◌, ◌≢◌, ℕ, ◌+◌, ◌≤◌, IsFalse}
+use Rattle.gopass_base.specs.Text.{Text}
 use Rattle.gopass_base.specs.Faults.{HasCause, Rose}
+use Rattle.store_core.specs.declared.refusal.Refusal.TheVariants.{Tool, Disk, NoMemory}
 use Rattle.disk_model.specs.declared.disk.Disk.{Ghosts}
-use Rattle.cipher_port.specs.Tool.{Ring}
+use Rattle.cipher_port.specs.Tool.{Opens, Ring}
 use Rattle.store_core.specs.declared.store.Store.{Store}
 use Rattle.store_state.specs.State.{State, StandsFor}
-use Rattle.store_core.specs.Said.{Said, Plan}
+use Rattle.store_core.specs.Plans.{Outcome, Refused, Plan}
 use Rattle.store_core.specs.Events.{Events}
-use Rattle.store_core.specs.Moment.{Faults, Tools, moment_of}
+use Rattle.store_core.specs.Moment.{Faults, Tools, moment_of, no_tools}
 use Rattle.store_core.specs.Performs.{Performs}
 
 -- where disk and tools tell: for their ring, and each state that the files stand for, the command performs what is planned
-abbrev pub Does : {D : Type 0} {G : Ghosts D} → (Ring → State → Events → Plan) → (old new : Store D G) → (before after : Tools) → Said → Type 0
-Does {G = G} plan old new before after said =
+abbrev pub Does : {D : Type 0} {G : Ghosts D} → (Ring → State → Events → Plan) → (old new : Store D G) → (before after : Tools) → Outcome → Type 0
+Does {G = G} plan old new before after outcome =
     G.meaning.tells → before.tells → (ring : Ring) → before.have ring → (start : State)
     → StandsFor before.opens old.vault.root (G.meaning.view old.vault.disk).files start
-    → Performs before.opens old.vault.root (plan ring start) start (moment_of old before) (moment_of new after) said
+    → Performs before.opens old.vault.root (plan ring start) start (moment_of old before) (moment_of new after) outcome
+
+-- the same of a command that asks no tool, whatever a tool opens
+abbrev pub DoesAlone : {D : Type 0} {G : Ghosts D} → (State → Events → Plan) → (old new : Store D G) → Outcome → Type 0
+DoesAlone {G = G} plan old new outcome =
+    G.meaning.tells → (opens : Opens) (start : State) → StandsFor opens old.vault.root (G.meaning.view old.vault.disk).files start
+    → Performs opens old.vault.root (plan start) start (moment_of old no_tools) (moment_of new no_tools) outcome
 
 -- of calls that may each fail: a fault is told only where the count rose, and where none is told it stays
 pub record AreCaused (before now : ℕ) (Told : Type 0) : Type 0 where
@@ -24,17 +32,15 @@ pub record AreCaused (before now : ℕ) (Told : Type 0) : Type 0 where
   pub stays : ¬ Told → now ≡ before
 
 -- a fault of the tools or of the disk is answered exactly where its count rose: no fault is passed over, and none is told as want
--- of memory. That of a sink is not answered, since no sink is asked
-pub record HasCauses (old new : Faults) (status : ℕ) : Type 0 where
-  pub tools : AreCaused old.tools new.tools (status ≡ 11)
-  pub disk : HasCause old.disk new.disk (status ≡ 12)
-  pub no_sink : status ≢ 16
+-- of memory
+pub record HasCauses (old new : Faults) (outcome : Outcome) : Type 0 where
+  pub tools : AreCaused old.tools new.tools ((name : Text) × (outcome ≡ Refused (Tool name)))
+  pub disk : HasCause old.disk new.disk (outcome ≡ Refused Disk)
 
--- told or not: the causes of the status, at most so many calls of tools, and what no command changes
-pub record Keeps {D : Type 0} {G : Ghosts D} (most : ℕ) (old new : Store D G) (before after : Tools) (status : ℕ) : Type 0 where
-  pub causes : HasCauses (moment_of old before).faults (moment_of new after).faults status
+-- told or not: the causes of the outcome, at most so many calls of tools, and what no command changes
+pub record Keeps {D : Type 0} {G : Ghosts D} (most : ℕ) (old new : Store D G) (before after : Tools) (outcome : Outcome) : Type 0 where
+  pub causes : HasCauses (moment_of old before).faults (moment_of new after).faults outcome
   pub calls : after.calls ≤ before.calls + most
-  pub no_input : status ≢ 15
-  pub free : status ≢ 12 → status ≢ 14 → IsFalse new.vault.stuck
+  pub free : outcome ≢ Refused Disk → outcome ≢ Refused NoMemory → IsFalse new.vault.stuck
   pub root : new.vault.root ≡ old.vault.root
   pub rings : (ring : Ring) → before.have ring → after.have ring

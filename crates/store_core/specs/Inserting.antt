@@ -1,31 +1,15 @@
 -- What the steps of `insert` find.
-use Rattle.std.specs.Prelude.{◌≡◌, ◌↔◌, ◌∷◌, ℕ, ◌<◌, Bool, true, false, not, ◌&&◌, nat_lt, nat_le, IsTrue, List, [], length, insert, slice_index_or, Contains, Option, None, Some, Result, Ok, Err, Vec, if◌then◌else◌}
-use Rattle.std.specs.List.Sorted.{IsBinarySearchResult, IsSearchInRange}
-use Rattle.std.specs.Ordering.{nat_cmp}
-use Rattle.std.specs.Cmp.Lexicographic.{slice_cmp}
+use Rattle.std.specs.Prelude.{◌≡◌, ◌↔◌, ℕ, Bool, true, false, not, ◌&&◌, nat_lt, nat_le, IsTrue, [], length, slice_index_or, Contains, Option, None, Some, Result, Ok, Err, Vec, if◌then◌else◌}
 use Rattle.gopass_base.specs.Text.{Text}
-use Rattle.mount_table.specs.Names.{IsName}
-use Rattle.mount_table.specs.Mounts.{IsMountOf, IsFileOf, IsTable, root_of}
-use Rattle.pending_journal.specs.declared.change.Change.{Change}
-use Rattle.pending_journal.specs.declared.vault.CommitFault.{CommitFault}
-use Rattle.pending_journal.specs.declared.vault.CommitFault.TheVariants.{Disk as CommitDisk, Stuck as CommitStuck, NoMemory as CommitNoMemory}
-use Rattle.pending_journal.specs.Change.{puts_in}
+use Rattle.mount_table.specs.Mounts.{IsMountOf}
 use Rattle.recipient_files.specs.Ids.{Ids}
 use Rattle.cipher_port.specs.Tool.{Opens, Ring, made_of, first_unknown}
 use Rattle.store_state.specs.declared.fault.Limit.{Limit}
 use Rattle.store_state.specs.declared.fault.Limit.TheVariants.{Secrets, Body, Files}
 use Rattle.store_state.specs.declared.opening.Found.{Found}
-use Rattle.store_core.specs.declared.grown.Grown.{Grown}
 use Rattle.store_core.specs.declared.refusal.Refusal.{Refusal}
-use Rattle.store_core.specs.declared.refusal.Refusal.TheVariants.{NoRule, Exists, Full, UnknownId, Tool, Disk, NoMemory}
-use Rattle.store_core.specs.Insert.{one_more}
+use Rattle.store_core.specs.declared.refusal.Refusal.TheVariants.{NoRule, Exists, Full, UnknownId, Tool, NoMemory}
 use Rattle.gopass_base.specs.Order.{IsRising}
-
--- what a fault of a commit makes a command answer, on a store that was not stuck
-abbrev pub IsRefusalByCommit : CommitFault → Refusal → Type 0
-IsRefusalByCommit CommitDisk refusal = refusal ≡ Disk
-IsRefusalByCommit CommitStuck refusal = ⊥
-IsRefusalByCommit CommitNoMemory refusal = refusal ≡ NoMemory
 
 -- no rule governs the name, or there was no memory
 abbrev pub IsUnruled : Text → Option Ids → Refusal → Type 0
@@ -65,36 +49,3 @@ SealsBody opens ring ids name body (Err (UnknownId id)) = (place : ℕ) × (firs
 SealsBody opens ring ids name body (Err (Tool other)) = other ≡ name
 SealsBody opens ring ids name body (Err NoMemory) = Unit {0}
 SealsBody opens ring ids name body (Err _) = ⊥
-
--- what is found once the secret is put: the name in its place and one file more, where the name is new
-abbrev pub IsGrownFor : Found → Text → Option Grown → Type 0
-IsGrownFor found name None = IsRising found.seen.names.items → Contains found.seen.names.items name
-IsGrownFor found name (Some grown) =
-    (at : ℕ) × IsSearchInRange (Err at) (length found.seen.names.items) × IsBinarySearchResult (λ (y : Text). slice_cmp nat_cmp y name) found.seen.names.items (Err at)
-    × (grown.names.items ≡ insert found.seen.names.items at name)
-    × (row : ℕ) × IsMountOf found.mounts name row × (slice_index_or found.counts.items row 0 < 40000 → grown.counts.items ≡ one_more row found.counts.items)
-
--- names and numbers of files are those, and all else stays
-pub record HasGrown (old new : Found) (names : List Text) (counts : List ℕ) : Type 0 where
-  pub mounts : new.mounts ≡ old.mounts
-  pub rules : new.rules ≡ old.rules
-  pub names_are : new.seen.names.items ≡ names
-  pub folders : new.seen.rules.items ≡ old.seen.rules.items
-  pub templates : new.seen.templates.items ≡ old.seen.templates.items
-  pub strange : new.seen.strange.items ≡ old.seen.strange.items
-  pub shadowed : new.seen.shadowed.items ≡ old.seen.shadowed.items
-  pub counts_are : new.counts.items ≡ counts
-
-abbrev pub TakesOver : Found → Option Grown → Found → Type 0
-TakesOver old None new = new ≡ old
-TakesOver old (Some grown) new = HasGrown old new grown.names.items grown.counts.items
-
--- the change puts these bytes into the file of the secret, and nothing else
-pub record IsPutOf (root : Text) (found : Found) (name bytes : Text) (change : Change) : Type 0 where
-  pub good : IsName name
-  pub table : IsTable (root_of found.mounts) found.mounts
-  pub root_is : change.root ≡ root
-  pub path : Text
-  pub file : IsFileOf found.mounts name path
-  pub puts : puts_in change ≡ (path, bytes) ∷ []
-  pub drops : change.drops.items ≡ []

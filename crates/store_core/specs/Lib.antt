@@ -1,7 +1,6 @@
 pub mod Stores
 pub mod Reads
-pub mod Texts
-pub mod Said
+pub mod Plans
 pub mod Events
 pub mod Moment
 pub mod Performs
@@ -10,7 +9,9 @@ pub mod Refusals
 pub mod Show
 pub mod Unsealing
 pub mod Insert
-pub mod Grown
 pub mod Inserting
 pub mod Kept
 pub mod Elsewhere
+pub mod Edit
+pub mod Entries
+pub mod Applying

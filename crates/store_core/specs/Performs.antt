@@ -1,5 +1,5 @@
 -- A command does what is planned.
-use Rattle.std.specs.Prelude.{◌≡◌, ◌⊎◌, ℕ, zero, suc, ◌+◌, ◌-◌, ◌^◌, ◌<◌, ◌≤◌, min, length, take, codes, List, [], ◌∷◌, Option, None, Some, IsFalse}
+use Rattle.std.specs.Prelude.{◌≡◌, ◌⊎◌, ℕ, zero, suc, ◌+◌, ◌-◌, ◌^◌, ◌<◌, ◌≤◌, min, length, take, List, [], ◌∷◌, Option, None, Some, IsFalse}
 use Rattle.gopass_base.specs.Text.{Text}
 use Rattle.gopass_base.specs.Faults.{Rose}
 use Rattle.disk_model.specs.Files.{Files}
@@ -8,7 +8,8 @@ use Rattle.disk_model.specs.Runs.{Leaves}
 use Rattle.pending_journal.specs.Redo.{RecoversTo}
 use Rattle.cipher_port.specs.Tool.{Opens}
 use Rattle.store_state.specs.State.{State, StandsFor}
-use Rattle.store_core.specs.Said.{Said, Plan, refused, unsaid}
+use Rattle.store_core.specs.Plans.{Outcome, Refused, Plan}
+use Rattle.store_core.specs.declared.refusal.Refusal.TheVariants.{Disk, NoMemory}
 use Rattle.store_core.specs.Events.{Events, failed_names, Cause, TheDisk, Memory, Stop}
 use Rattle.store_core.specs.Moment.{Faults, Moment}
 use Rattle.store_core.specs.Elsewhere.{IsSameElsewhere}
@@ -27,15 +28,15 @@ pub record IsTied (old new : Faults) (events : Events) (stop : Option Stop) : Ty
   pub tools : RoseBy old.tools (length (failed_names events)) new.tools
   pub disk : (n : ℕ) → stop ≡ Some (record { cause = TheDisk; commits = n }) → Rose old.disk new.disk
 
--- what is said where a turn stopped
-abbrev pub stop_said : Cause → Said
-stop_said TheDisk = refused 12 (codes "the disk failed")
-stop_said Memory = unsaid
+-- what a turn that stopped comes to
+abbrev pub stop_outcome : Cause → Outcome
+stop_outcome TheDisk = Refused Disk
+stop_outcome Memory = Refused NoMemory
 
 -- a stop cuts a plan off: of its states there are those that were answered, and the next
 abbrev pub cut_off : Option Stop → Plan → Plan
 cut_off None plan = plan
-cut_off (Some stop) plan = record { said = stop_said stop.cause; states = take (stop.commits + 1) plan.states; calls = plan.calls; changes = plan.changes; records = [] }
+cut_off (Some stop) plan = record { outcome = stop_outcome stop.cause; states = take (stop.commits + 1) plan.states; calls = plan.calls; changes = plan.changes; records = [] }
 
 -- the number of commits that were answered
 abbrev pub answered : Option Stop → Plan → ℕ
@@ -72,11 +73,11 @@ pub record Goes (opens : Opens) (root : Text) (start : State) (states : List Sta
 
 -- the command does what is planned for some events, tied to what happened, up to a stop. At any moment each file is as it
 -- was, byte for byte, but those that the plan may change
-pub record Performs (opens : Opens) (root : Text) (plan : Events → Plan) (start : State) (old new : Moment) (said : Said) : Type 0 where
+pub record Performs (opens : Opens) (root : Text) (plan : Events → Plan) (start : State) (old new : Moment) (outcome : Outcome) : Type 0 where
   pub events : Events
   pub stop : Option Stop
   pub tied : IsTied old.faults new.faults events stop
-  pub says : said ≡ (cut_off stop (plan events)).said
+  pub is : outcome ≡ (cut_off stop (plan events)).outcome
   pub goes : Goes opens root start (cut_off stop (plan events)).states (answered stop (plan events)) old new
   pub calls : new.calls ≤ old.calls + (plan events).calls
   pub elsewhere : Leaves (IsSameElsewhere root (plan events).changes old.view.files) old.view new.view

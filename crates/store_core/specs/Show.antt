@@ -6,8 +6,8 @@ use Rattle.gopass_base.specs.Text.{Text}
 use Rattle.mount_table.specs.MountOf.{holds}
 use Rattle.cipher_port.specs.Tool.{Ring, has_key_of}
 use Rattle.store_state.specs.State.{State, Cell, Sealed, Broken}
-use Rattle.store_core.specs.Said.{Said, Plan, granted, refused, answers, answers_by_tool}
-use Rattle.store_core.specs.Texts.{not_in_the_store, is_a_folder, no_key, not_sealed, tool_failed}
+use Rattle.store_core.specs.Plans.{Outcome, Done, Refused, Plan, answers, answers_by_tool}
+use Rattle.store_core.specs.declared.refusal.Refusal.TheVariants.{NotFound, IsFolder, NoKey, NotSealed, Tool}
 use Rattle.store_core.specs.Events.{Events, is_refused}
 
 -- the names of the secrets, in the order of their bytes
@@ -19,18 +19,18 @@ abbrev pub holds_one : Text → List Text → Bool
 holds_one folder names = list_any (λ name. holds folder name) names
 
 -- what is said of a name that has no secret: whether it is that of a folder
-abbrev pub missing : Text → List Text → Said
-missing name names = refused 3 (if holds_one name names then is_a_folder name else not_in_the_store name)
+abbrev pub missing : Text → List Text → Outcome
+missing name names = Refused (if holds_one name names then IsFolder else NotFound)
 
 -- the body, where a key is held for it
-abbrev pub shown : Ring → Text → Cell → Said
-shown ring name (Sealed content) = if has_key_of ring content.to then granted content.body else refused 8 (no_key name)
-shown ring name (Broken bytes) = refused 8 (not_sealed name)
+abbrev pub shown : Ring → Text → Cell → Outcome
+shown ring name (Sealed content) = if has_key_of ring content.to then Done content.body else Refused (NoKey name)
+shown ring name (Broken bytes) = Refused (NotSealed name)
 
 -- what is planned of a secret, or of none
 abbrev pub show_row : Ring → Text → List Text → Events → Option Cell → Plan
 show_row ring name names events None = answers (missing name names)
-show_row ring name names events (Some cell) = answers_by_tool (if is_refused name events then refused 11 (tool_failed name) else shown ring name cell)
+show_row ring name names events (Some cell) = answers_by_tool (if is_refused name events then Refused (Tool name) else shown ring name cell)
 
 -- `show` prints the body of a secret, and changes nothing
 abbrev pub plan_show : Ring → Text → State → Events → Plan

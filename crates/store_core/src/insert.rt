@@ -9,19 +9,21 @@ ghost use Rattle.store_state.specs.Places.{secret_path};
 ghost use Rattle.store_core.specs.Elsewhere.{IsSameElsewhere};
 ghost use Rattle.store_core.specs.Moment.{one_tool};
 ghost use Rattle.store_core.specs.Does.{Does, Keeps};
-ghost use Rattle.store_core.specs.Refusals.{IsAbout, said_by};
+ghost use Rattle.store_core.specs.Plans.{outcome_by};
+ghost use Rattle.store_core.specs.Refusals.{IsAbout};
 ghost use Rattle.store_core.specs.Insert.{plan_insert};
-ghost use Rattle.store_core.specs.Inserting.{IsRefusalByCommit, IsPutOf, IsTested, IsUnruled, SealsBody};
+ghost use Rattle.store_core.specs.Edit.{OfSecret};
+ghost use Rattle.store_core.specs.Entries.{entries_in};
+ghost use Rattle.store_core.specs.Inserting.{IsTested, IsUnruled, SealsBody};
 
-use crate::grown::{take_over, with_secret};
+use crate::edit::Edit;
 use crate::reads::has_name;
-use crate::refusal::Refusal;
+use crate::refusal::{Refusal, refused_by};
 use crate::store::Store;
 use cipher_port::{Cipher, SealFault};
 use disk_model::Disk;
 use gopass_base::NoMemory;
 use mount_table::Name;
-use pending_journal::{Change, ChangeAddFault, CommitFault};
 use recipient_files::Recipients;
 use std::alloc::Global;
 use store_state::{Limit, MOST_FILES, MOST_SECRETS};
@@ -66,16 +68,13 @@ fn is_in_the_way(there: bool, force: bool) -> bool
     !force && there
 }
 
-/// What a fault of a commit says, on a store that was not stuck.
-fn refusal_by_commit(fault: CommitFault) -> Refusal
-    requires { fault ≢ CommitFault.Stuck }
-    ensures { IsRefusalByCommit fault result }
+/// The edit that gives the file of the secret these bytes.
+fn edit_of(alloc: Global, name: &Name, sealed: Vec<u8>) -> Result<Edit, NoMemory>
+    ensures { IfOk result (λ edit. entries_in edit ≡ OfSecret name.now (Some sealed.items) ∷ []) }
 {
-    match fault {
-        CommitFault::Disk => Refusal::Disk,
-        CommitFault::NoMemory => Refusal::NoMemory,
-        CommitFault::Stuck => unreachable!(),
-    }
+    let mut edit = Edit::new(alloc);
+    edit.secrets.push((name.copy(alloc)?, Some(sealed)))?;
+    Ok(edit)
 }
 
 impl<D: Disk> Store<D> {
@@ -113,24 +112,6 @@ impl<D: Disk> Store<D> {
         }
     }
 
-    /// The change that puts the sealed bytes into the file of the secret. Only memory can be wanting:
-    /// the change holds nothing yet, and the file of a secret is none of the vault's own.
-    fn put_of(&self, name: &Name, sealed: Vec<u8>) -> Result<Change, NoMemory>
-        ensures { IfOk result (IsPutOf self.now.vault.root self.now.found name.now sealed.items) }
-    {
-        // A name is one, which a file of a secret needs.
-        let _ = name.text();
-        let path = self.mounts().file_of(name)?;
-        let mut change = Change::new(self.alloc(), self.vault.root())?;
-        match change.put(path, sealed) {
-            Ok(()) => Ok(change),
-            Err(ChangeAddFault::NoMemory) => Err(NoMemory),
-            Err(ChangeAddFault::TwoForOne) => unreachable!(),
-            Err(ChangeAddFault::Service) => unreachable!(),
-            Err(ChangeAddFault::Long) => unreachable!(),
-        }
-    }
-
     /// Seals the body for the recipients of the name and puts it into the file of the secret, in one
     /// commit. A secret that is there is written over with `force` alone. The tool is called
     /// once at most, and no other file than that of the secret is changed.
@@ -143,9 +124,9 @@ impl<D: Disk> Store<D> {
     ) -> Result<(), Refusal>
         requires free { IsFalse self.old.vault.stuck }
         ensures planned { Does (λ ring. plan_insert ring name.now body.now force) self.old self.new (one_tool C.meaning tool.old) (one_tool C.meaning tool.new)
-            (said_by name.now (λ done. []) result) }
+            (outcome_by (λ done. []) result) }
         ensures keeps { Keeps 1 self.old self.new (one_tool C.meaning tool.old) (one_tool C.meaning tool.new)
-            (said_by name.now (λ done. []) result).status }
+            (outcome_by (λ done. []) result) }
         ensures about { IfErr result (IsAbout name.now) }
         ensures elsewhere { D.meaning.tells → Leaves (IsSameElsewhere self.old.vault.root (secret_path self.old.found.mounts name.now ∷ []) (D.meaning.view self.old.vault.disk).files)
             (D.meaning.view self.old.vault.disk) (D.meaning.view self.new.vault.disk) }
@@ -154,12 +135,7 @@ impl<D: Disk> Store<D> {
         let ids = self.rule_for(name)?;
         self.test(name, body, force)?;
         let sealed = seal_body(alloc, name, &ids, body, tool)?;
-        let grown = with_secret(alloc, &self.found, name)?;
-        let change = self.put_of(name, sealed)?;
-        match self.vault.commit(&change) {
-            Ok(()) => take_over(&mut self.found, grown),
-            Err(fault) => return Err(refusal_by_commit(fault)),
-        }
-        Ok(())
+        let edit = edit_of(alloc, name, sealed)?;
+        refused_by(self.apply(&edit))
     }
 }

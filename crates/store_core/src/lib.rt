@@ -1,7 +1,10 @@
 //! A store: its secrets, and the commands on it.
 #![tactic(auto)]
 
-mod grown;
+mod apply;
+mod change_of;
+mod edit;
+mod foresee;
 mod insert;
 mod laws;
 mod open_store;
@@ -11,6 +14,7 @@ mod refusal;
 mod show;
 mod store;
 
+pub use edit::{ApplyFault, Edit};
 pub use laws::insert_keeps;
 pub use open_store::StoreOpened;
 pub use read_fault::ReadFault;

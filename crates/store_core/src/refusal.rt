@@ -1,8 +1,10 @@
 //! Why a command on a store is refused.
 
 ghost use Rattle.std.specs.Prelude.{◌≡◌};
+ghost use Rattle.store_core.specs.Refusals.{as_refused};
 ghost use Rattle.store_core.specs.declared.refusal.Refusal.TheVariants.{NoMemory as no_memory};
 
+use crate::edit::ApplyFault;
 use crate::read_fault::ReadFault;
 use gopass_base::NoMemory;
 use mount_table::Name;
@@ -54,5 +56,16 @@ impl From<ReadFault> for Refusal {
             ReadFault::Disk => Refusal::Disk,
             ReadFault::NoMemory => Refusal::NoMemory,
         }
+    }
+}
+
+/// What an edit answers, as a command does.
+pub(crate) fn refused_by(made: Result<(), ApplyFault>) -> Result<(), Refusal>
+    ensures { result ≡ as_refused made }
+{
+    match made {
+        Ok(()) => Ok(()),
+        Err(ApplyFault::Disk) => Err(Refusal::Disk),
+        Err(ApplyFault::NoMemory) => Err(Refusal::NoMemory),
     }
 }

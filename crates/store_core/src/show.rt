@@ -6,7 +6,8 @@ ghost use Rattle.gopass_base.specs.Faults.{HasCause, counted};
 ghost use Rattle.disk_model.specs.Disk.{Rests};
 ghost use Rattle.store_core.specs.Moment.{one_tool};
 ghost use Rattle.store_core.specs.Does.{Does, Keeps};
-ghost use Rattle.store_core.specs.Refusals.{IsAbout, said_by};
+ghost use Rattle.store_core.specs.Plans.{outcome_by};
+ghost use Rattle.store_core.specs.Refusals.{IsAbout};
 ghost use Rattle.store_core.specs.Show.{plan_show};
 ghost use Rattle.store_core.specs.Unsealing.{IsNotSealed, Shows, refusal_by_tool, why_missing};
 
@@ -80,9 +81,9 @@ impl<D: Disk> Store<D> {
     pub fn show<C: Cipher>(&mut self, name: &Name, tool: &mut C) -> Result<Vec<u8>, Refusal>
         requires free { IsFalse self.old.vault.stuck }
         ensures planned { Does (λ ring. plan_show ring name.now) self.old self.new (one_tool C.meaning tool.old) (one_tool C.meaning tool.new)
-            (said_by name.now (λ body. body.items) result) }
+            (outcome_by (λ body. body.items) result) }
         ensures keeps { Keeps 1 self.old self.new (one_tool C.meaning tool.old) (one_tool C.meaning tool.new)
-            (said_by name.now (λ body. body.items) result).status }
+            (outcome_by (λ body. body.items) result) }
         ensures about { IfErr result (IsAbout name.now) }
         ensures bound { IfOk result (λ body. length body.items ≤ 32768) }
         ensures rests { D.meaning.tells → Rests (D.meaning.view self.old.vault.disk) (D.meaning.view self.new.vault.disk) }

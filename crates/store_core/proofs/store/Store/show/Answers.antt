@@ -5,7 +5,6 @@ use Rattle.cipher_port.specs.Tool.{Ring}
 use Rattle.store_core.specs.Moment.{moment_of, one_tool}
 use Rattle.store_core.specs.Performs.{Performs}
 use Rattle.store_core.specs.Reads.{ReadsAt}
-use Rattle.store_core.specs.Refusals.{refusal_said}
 use Rattle.store_core.specs.Show.{plan_show, names_of}
 use Rattle.store_core.specs.Unsealing.{Shows, why_missing}
 use Rattle.store_core.specs.declared.refusal.Refusal.{Refusal}
@@ -13,6 +12,7 @@ use Rattle.store_state.proofs.AgreeLemmas.{keys_agree, among_keys}
 use Rattle.store_core.proofs.PerformLemmas.{Still, still_same}
 use Rattle.store_core.proofs.ShowLemmas.{show_missing, show_no_memory, show_fault, show_given, named, file_there, vault_file, not_sealed_shows, not_sealed_no_tool}
 use Rattle.store_core.proofs.KeepsLemmas.{tool_keeps}
+use Rattle.store_core.specs.Plans.{Refused}
 use Rattle.store_core.proofs.store.Store.show.Goals as goal
 
 pub returns-then-not-has_name-clause-planned : goal.returns-then-not-has_name-clause-planned
@@ -25,7 +25,7 @@ returns-then-not-has_name-clause-planned g c told tells ring have start s =
     let among = among_keys start.rows c.names.result.now c.args.name.now c.has_name.result (keys ∙ sym c.names.ensures) c.has_name.ensures in
     let out : c.has_name.result ≡ false = search rules in
     let same : c.why_missing.result ≡ why_missing c.args.name.now (names_of start) = c.why_missing.ensures ∙ ap (why_missing c.args.name.now) (c.names-then-not-has_name.ensures ∙ sym keys) in
-    subst (λ (r : Refusal). Performs opens self.vault.root (plan_show ring c.args.name.now start) start now now (refusal_said c.args.name.now r)) (sym same)
+    subst (λ (r : Refusal). Performs opens self.vault.root (plan_show ring c.args.name.now start) start now now (Refused r)) (sym same)
     (show_missing opens self.vault.root ring c.args.name.now start now now s (still_same self.vault.root now (self.vault.at_rest c.requires.free told)) (λ has. (let t : true ≡ false = sym (among.1 has) ∙ out in cc)) (omega arith))
 
 pub returns-in_err-path-clause-planned : goal.returns-in_err-path-clause-planned
@@ -87,5 +87,5 @@ returns-clause-planned g c told tells ring have start s =
     (λ other is. absurd (not_sealed_no_tool name c.not_sealed.result c.not_sealed.ensures other is)) (omega arith)
 
 pub returns-in-Some-clause-keeps : goal.returns-in-Some-clause-keeps
-returns-in-Some-clause-keeps g c = tool_keeps c.args.self.now c.read_at.new.self (one_tool g.C.Cipher.meaning c.args.tool.now) (one_tool g.C.Cipher.meaning c.unseal.new.tool) c.args.name.now (λ (body : Vec ℕ Global). body.items) c.unseal.result
+returns-in-Some-clause-keeps g c = tool_keeps c.args.self.now c.read_at.new.self (one_tool g.C.Cipher.meaning c.args.tool.now) (one_tool g.C.Cipher.meaning c.unseal.new.tool) (λ (body : Vec ℕ Global). body.items) c.unseal.result
     (record { later = c.unseal.ensures.cause.later; failed = c.unseal.ensures.cause.failed; stays = c.unseal.ensures.cause.stays }) c.unseal.ensures.no_disk (c.in_ok-sealed.ensures.cause.stays (λ e. cc)) c.unseal.ensures.once (search rules) c.read_at.ensures.same.vault.root (λ ring have. c.unseal.ensures.ring ∙ have)

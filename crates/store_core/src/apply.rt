@@ -1,0 +1,63 @@
+//! The one function that commits.
+
+ghost use Rattle.std.specs.Prelude.{◌≡◌, ◌≢◌, ◌≤◌, length, [], ◌∷◌, IsFalse, OnOk, OnErr, Err};
+ghost use Rattle.gopass_base.specs.Faults.{HasCause};
+ghost use Rattle.disk_model.specs.Runs.{Leaves};
+ghost use Rattle.cipher_port.specs.Tool.{Opens};
+ghost use Rattle.store_state.specs.State.{State, StandsFor};
+ghost use Rattle.store_core.specs.Elsewhere.{IsSameElsewhere};
+ghost use Rattle.store_core.specs.Moment.{moment_of, no_tools};
+ghost use Rattle.store_core.specs.Performs.{Goes};
+ghost use Rattle.store_core.specs.Edit.{Differ, IsWithin, edited, paths_in};
+ghost use Rattle.store_core.specs.Entries.{entries_in};
+ghost use Rattle.store_core.specs.Applying.{IsFaultOf, IsMadeBy, made_by};
+
+use crate::change_of::change_of;
+use crate::edit::{ApplyFault, Edit};
+use crate::foresee::foresee;
+use crate::store::Store;
+use disk_model::Disk;
+use pending_journal::CommitFault;
+
+/// What a fault of a commit makes of an edit, on a store that was not stuck.
+fn fault_of(fault: CommitFault) -> ApplyFault
+    requires { fault ≢ CommitFault.Stuck }
+    ensures { IsFaultOf fault result }
+{
+    match fault {
+        CommitFault::Disk => ApplyFault::Disk,
+        CommitFault::NoMemory => ApplyFault::NoMemory,
+        CommitFault::Stuck => unreachable!(),
+    }
+}
+
+impl<D: Disk> Store<D> {
+    /// Makes the edit in one commit. No two of its entries are of one secret, rule or template, there are
+    /// at most 16,400, and no limit of a store is passed afterwards. After a fault of the disk the edit
+    /// is made whole or not at all, and the store is stuck. No other file is changed, and what the
+    /// store keeps changes where the answer is `Ok` alone.
+    pub fn apply(&mut self, edit: &Edit) -> Result<(), ApplyFault>
+        requires free { IsFalse self.old.vault.stuck }
+        requires differ { Differ (entries_in edit.now) }
+        requires few { length (entries_in edit.now) ≤ 16400 }
+        requires fits { D.meaning.tells → (opens : Opens) (start : State) → StandsFor opens self.old.vault.root (D.meaning.view self.old.vault.disk).files start
+            → IsWithin (edited opens (entries_in edit.now) start) }
+        ensures goes { D.meaning.tells → (opens : Opens) (start : State) → StandsFor opens self.old.vault.root (D.meaning.view self.old.vault.disk).files start
+            → Goes opens self.old.vault.root start (edited opens (entries_in edit.now) start ∷ []) (made_by result) (moment_of self.old no_tools) (moment_of self.new no_tools) }
+        ensures elsewhere { D.meaning.tells → Leaves (IsSameElsewhere self.old.vault.root (paths_in self.old.found.mounts (entries_in edit.now)) (D.meaning.view self.old.vault.disk).files)
+            (D.meaning.view self.old.vault.disk) (D.meaning.view self.new.vault.disk) }
+        ensures kept { OnOk result (IsMadeBy (entries_in edit.now) self.old.found self.new.found) }
+        ensures same { OnErr result (self.new.found ≡ self.old.found) }
+        ensures cause { HasCause (D.meaning.faults self.old.vault.disk) (D.meaning.faults self.new.vault.disk) (result ≡ Err ApplyFault.Disk) }
+        ensures free { OnOk result (IsFalse self.new.vault.stuck) }
+        ensures root { self.new.vault.root ≡ self.old.vault.root }
+    {
+        let next = foresee(self.alloc(), &self.found, edit)?;
+        let change = change_of(self.alloc(), self.vault.root(), &self.found.mounts, edit)?;
+        match self.vault.commit(&change) {
+            Ok(()) => self.found = next,
+            Err(fault) => return Err(fault_of(fault)),
+        }
+        Ok(())
+    }
+}
