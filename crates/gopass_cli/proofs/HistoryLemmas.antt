@@ -20,7 +20,7 @@ use Rattle.gopass_cli.specs.Safe.{IsOneOf, IsOldOrElsewhere, StandsForOne}
 use Rattle.gopass_cli.proofs.SafeLemmas.{start_or}
 use Rattle.gopass_cli.proofs.KeptLemmas.{plan_kept}
 use Rattle.store_core.specs.Kept.{IsKept, AreAllKept}
-use Rattle.store_core.specs.Said.{Plan}
+use Rattle.store_core.specs.Plans.{Plan}
 use Rattle.store_core.specs.Events.{Stop}
 use Rattle.gopass_cli.specs.History.{Run, IsKeptBy, History, begun, handed_back, crashed, stopped, next_after, found_after, found_during, changed_by, changes_of, first_disk}
 

@@ -2,6 +2,8 @@ pub mod Outcomes
 pub mod PrintLemmas
 pub mod RingLemmas
 pub mod TurnLemmas
+pub mod AskedLemmas
+pub mod CauseLemmas
 pub mod RunLemmas
 pub mod ListingLemmas
 pub mod SafeLemmas

@@ -1,7 +1,7 @@
 -- What is printed where no sink failed.
 use Rattle.std.proofs.Common.{◌≡◌, ◌≢◌, ℕ, inl, inr}
 use Rattle.gopass_base.specs.Faults.{Rose}
-use Rattle.store_core.specs.Said.{Said}
+use Rattle.gopass_cli.specs.Said.{Said}
 use Rattle.gopass_cli.specs.Printed.{Stream, Prints, PrintsAll}
 
 pub prints_all : (said : Said) (status : ℕ) (out out' err err' : Stream) → ¬ Rose out.faults out'.faults → ¬ Rose err.faults err'.faults

@@ -15,10 +15,11 @@ use Rattle.store_state.specs.declared.fault.StoreFault.{StoreFault}
 use Rattle.store_state.specs.declared.fault.StoreFault.TheVariants.{BadFile, Full, Disk, NoMemory}
 use Rattle.store_state.specs.Opening.{OpensStore}
 use Rattle.store_state.specs.State.{State}
-use Rattle.store_core.specs.Said.{Said, Plan, unsaid}
+use Rattle.store_core.specs.Plans.{Outcome, Plan}
+use Rattle.gopass_cli.specs.Said.{Said, said_of, stop_said, unsaid}
 use Rattle.store_core.specs.Events.{Events, calm, failed_names, Cause, TheDisk, Memory, Stop}
 use Rattle.store_core.specs.Moment.{Faults, Moment}
-use Rattle.store_core.specs.Performs.{IsTied, Performs, RoseBy, cut_off, stop_said}
+use Rattle.store_core.specs.Performs.{IsTied, Performs, RoseBy, cut_off, stop_outcome}
 use Rattle.store_core.proofs.PerformLemmas.{calm_tied, stopped_tied}
 use Rattle.command_words.specs.declared.command.Command.TheVariants as commands
 use Rattle.request_body.specs.declared.body.BodyFault.{BodyFault}
@@ -65,14 +66,24 @@ runs_later S old mid new said disk tools p = record {
   says = p.says;
 }
 
-up_to : (stop : Option Stop) (plan : Plan) (said : Said) → said ≡ (cut_off stop plan).said → UpTo stop (said ≡ plan.said) said
-up_to None plan said e = e
-up_to (Some stop) plan said e = e
+-- the same is said of a stop, whatever was asked for
+stop_says : (asked : Text) (cause : Cause) → said_of asked (stop_outcome cause) ≡ stop_said cause
+stop_says asked TheDisk = refl
+stop_says asked Memory = refl
+
+up_to : (asked : Text) (stop : Option Stop) (plan : Plan) (said : Said) → said ≡ said_of asked (cut_off stop plan).outcome → UpTo stop (said ≡ said_of asked plan.outcome) said
+up_to asked None plan said e = e
+up_to asked (Some stop) plan said e = e ∙ stop_says asked stop.cause
 
 -- a command that performs its plan
-pub runs_performs : (opens : Opens) (root : Text) (plan : Events → Plan) (start : State) (old new : Moment) (said : Said) → Performs opens root plan start old new said
-    → SaidInRun (λ events said. said ≡ (plan events).said) old.faults new.faults said
-runs_performs opens root plan start old new said p = record { events = p.events; stop = p.stop; tied = p.tied; says = up_to p.stop (plan p.events) said p.says }
+pub runs_performs : (opens : Opens) (root asked : Text) (plan : Events → Plan) (start : State) (old new : Moment) (outcome : Outcome) (said : Said) → said ≡ said_of asked outcome → Performs opens root plan start old new outcome
+    → SaidInRun (λ events said. said ≡ said_of asked (plan events).outcome) old.faults new.faults said
+runs_performs opens root asked plan start old new outcome said says p = record {
+  events = p.events;
+  stop = p.stop;
+  tied = p.tied;
+  says = up_to asked p.stop (plan p.events) said (says ∙ ap (said_of asked) p.is);
+}
 
 -- ---- where nothing failed
 

@@ -23,11 +23,13 @@ use Rattle.pending_journal.specs.declared.fault.VaultFault.{VaultFault}
 use Rattle.pending_journal.specs.declared.fault.VaultFault.TheVariants.{BadJournal, Disk as NoVaultDisk, NoMemory as NoVaultRoom}
 use Rattle.request_body.specs.declared.body.BodyFault.{BodyFault}
 use Rattle.request_body.specs.declared.body.BodyFault.TheVariants.{Missing, Long, Failed, NoMemory as NoBodyRoom}
-use Rattle.store_core.specs.Said.{Said, Plan, unsaid}
+use Rattle.store_core.specs.Plans.{Outcome, Plan}
+use Rattle.gopass_cli.specs.Asked.{subject_of}
+use Rattle.gopass_cli.specs.Said.{Said, said_of, unsaid}
 use Rattle.store_core.specs.Elsewhere.{IsSameElsewhere}
 use Rattle.store_core.specs.Events.{Cause, TheDisk, Memory, Stop}
 use Rattle.store_core.specs.Moment.{Faults, Moment}
-use Rattle.store_core.specs.Performs.{IsPassed, LeftFor, Performs, cut_off, state_at, stop_said}
+use Rattle.store_core.specs.Performs.{IsPassed, LeftFor, Performs, cut_off, state_at, stop_outcome}
 use Rattle.request_body.specs.Bodies.{Input}
 use Rattle.gopass_cli.specs.Plan.{plan_of}
 use Rattle.request_body.specs.Given.{IsGiven}
@@ -113,18 +115,18 @@ tells_printed said status out out' err err' (inr (inr stops)) tells = subst Begi
 
 -- ---- a run that is not stopped
 
-whole_by : (stop : Option Stop) (plan : Plan) (status : ℕ) → status ≡ (cut_off stop plan).said.status → status ≢ 12 → status ≢ 14 → stop ≡ None
-whole_by None plan status is disk memory = refl
-whole_by (Some stop) plan status is disk memory = absurd (by stop.cause is)
+whole_by : (asked : Text) (stop : Option Stop) (plan : Plan) (status : ℕ) → status ≡ (said_of asked (cut_off stop plan).outcome).status → status ≢ 12 → status ≢ 14 → stop ≡ None
+whole_by asked None plan status is disk memory = refl
+whole_by asked (Some stop) plan status is disk memory = absurd (by stop.cause is)
   where
-    by : (cause : Cause) → status ≡ (stop_said cause).status → ⊥
+    by : (cause : Cause) → status ≡ (said_of asked (stop_outcome cause)).status → ⊥
     by TheDisk e = disk e
     by Memory e = memory e
 
 module _ (opens : Opens) (root : Text) where
   -- a status that is none of 12, 14 and 16 tells that there was no stop
   pub went_whole : (ring : Ring) (command : Command) (input : Input) (before : List State) (old new : View) (f0 f1 : Faults) (status : ℕ) → (w : Went opens root ring command input before old new f0 f1 status) → status ≢ 12 → status ≢ 14 → status ≢ 16 → w.stop ≡ None
-  went_whole ring command input before old new f0 f1 status w disk memory sink = whole_by w.stop (plan_of ring command w.body w.start w.events) status (w.says sink) disk memory
+  went_whole ring command input before old new f0 f1 status w disk memory sink = whole_by (subject_of command) w.stop (plan_of ring command w.body w.start w.events) status (w.says sink) disk memory
 
   more_states : (before more : List State) (m : Files) → IsOneOf opens root before m → IsOneOf opens root (before ++ more) m
   more_states before more m (state, has, left) = (state, Contains-append_left before more state has, left)
@@ -271,10 +273,10 @@ module _ (opens : Opens) (root : Text) where
       })
 
   -- a command that performs its plan
-  pub went_performs : (ring : Ring) (command : Command) (input : Input) (body : Option Text) (before : List State) (start : State) (old new : Moment) (said : Said) → Contains before start → IsAtRest root old.view → StandsFor opens root old.view.files start → IsGiven command input body → (said.status ≢ 12 → said.status ≢ 14 → IsAtRest root new.view)
-      → Performs opens root (plan_of ring command body start) start old new said → Went opens root ring command input before old.view new.view old.faults new.faults said.status
+  pub went_performs : (ring : Ring) (command : Command) (input : Input) (body : Option Text) (before : List State) (start : State) (old new : Moment) (outcome : Outcome) (said : Said) → said ≡ said_of (subject_of command) outcome → Contains before start → IsAtRest root old.view → StandsFor opens root old.view.files start → IsGiven command input body → (said.status ≢ 12 → said.status ≢ 14 → IsAtRest root new.view)
+      → Performs opens root (plan_of ring command body start) start old new outcome → Went opens root ring command input before old.view new.view old.faults new.faults said.status
   unfolding rest_left
-  went_performs ring command input body before start old new said from rest stands given ends p = record {
+  went_performs ring command input body before start old new outcome said told from rest stands given ends p = record {
     start = start;
     from = from;
     found = rest_left old.view start rest stands;
@@ -283,7 +285,7 @@ module _ (opens : Opens) (root : Text) where
     events = p.events;
     stop = p.stop;
     tied = p.tied;
-    says = λ sink. ap (λ (s : Said). s.status) p.says;
+    says = λ sink. ap (λ (s : Said). s.status) (told ∙ ap (said_of (subject_of command)) p.is);
     any_moment = leaves_weaken (IsPassed opens root start (cut_off p.stop (plan_of ring command body start p.events)).states) (IsOneOf opens root (before ++ (cut_off p.stop (plan_of ring command body start p.events)).states)) old.view new.view
         (passed_is_one before (cut_off p.stop (plan_of ring command body start p.events)).states start from) p.goes.any_moment;
     at_end = p.goes.at_end;

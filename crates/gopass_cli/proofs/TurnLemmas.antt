@@ -1,28 +1,31 @@
 -- From what a step of a command says to what the command performs.
-use Rattle.std.proofs.Common.{◌≡◌, inl, inr, ℕ, ◌+◌, ◌<◌, ◌≤◌, Bool, List, length, get_or, set, refl, sym, ◌∙◌, ap, subst, arith}
-use Rattle.std.specs.Prelude.{Option, None, Some, codes, sum_by}
+use Rattle.std.proofs.Common.{◌≡◌, ◌⊎◌, inl, inr, ℕ, ◌+◌, ◌<◌, ◌≤◌, List, length, get_or, set, refl, sym, ◌∙◌, ap, subst, arith}
+use Rattle.std.specs.Prelude.{[], IsFalse, Option, Result, Ok, Err, IfErr, sum_by}
 use Rattle.std.proofs.lemmas.List.Elements.{All-set}
 use Rattle.std.proofs.lemmas.List.Sums.{sum_by-set, get_or-le-sum_by}
 use Rattle.gopass_base.specs.Text.{Text}
-use Rattle.mount_table.specs.Folders.{without_slash}
-use Rattle.mount_table.specs.FaultOf.{folder_fault}
-use Rattle.store_core.specs.Show.{names_of}
-use Rattle.mount_table.specs.declared.name.BadName.{BadName}
 use Rattle.disk_model.specs.declared.disk.Disk.{Ghosts}
-use Rattle.cipher_port.specs.Tool.{Opens, ToolMeaning}
+use Rattle.cipher_port.specs.Tool.{Opens, Ring, ToolMeaning}
 use Rattle.store_core.specs.declared.store.Store.{Store}
 use Rattle.pending_journal.specs.Redo.{IsAtRest}
 use Rattle.store_state.specs.State.{State, StandsFor}
-use Rattle.store_core.specs.Said.{Said, Plan, answers, refused, unsaid}
-use Rattle.store_core.specs.Texts.{bad_name}
+use Rattle.store_core.specs.Plans.{Outcome, Refused, Plan, answers, outcome_by}
+use Rattle.store_core.specs.Refusals.{IsAbout}
+use Rattle.store_core.specs.declared.refusal.Refusal.{Refusal}
+use Rattle.store_core.specs.declared.refusal.Refusal.TheVariants.{NotFound, Tool, Disk, NoMemory}
 use Rattle.store_core.specs.Events.{Events, calm, Memory}
 use Rattle.store_core.specs.Moment.{Moment, Tools, all_tools, moment_of, one_tool}
-use Rattle.store_core.specs.Does.{Keeps}
+use Rattle.store_core.specs.Does.{Does, Keeps}
 use Rattle.store_core.specs.Performs.{Performs}
 use Rattle.store_core.proofs.PerformLemmas.{still_same, calm_tied, quiet, quiet_stop, wants_memory}
-use Rattle.gopass_cli.specs.Words.{unless_bad}
-use Rattle.gopass_cli.specs.Replies.{Says}
-use Rattle.gopass_cli.specs.Ls.{list_folder, list_word, plan_ls}
+use Rattle.command_words.specs.declared.command.Command.{Command}
+use Rattle.gopass_cli.specs.declared.asked.Asked.{Asked}
+use Rattle.gopass_cli.specs.Asked.{asked_by, subject_by, subject_of}
+use Rattle.gopass_cli.specs.Plan.{body_in, calls_by, most_calls, plan_by, plan_of}
+use Rattle.gopass_cli.specs.Said.{Said, said_of, unsaid}
+use Rattle.gopass_cli.specs.Outcomes.{ComesTo, IsInner, IsOutcomeAbout}
+use Rattle.gopass_cli.specs.Replies.{Answers, IsInnerStatus, Says, said_in}
+use Rattle.gopass_cli.specs.declared.reply.Reply.{Reply}
 
 -- ---- from one tool to all of them
 
@@ -30,55 +33,34 @@ use Rattle.gopass_cli.specs.Ls.{list_folder, list_word, plan_ls}
 abbrev pub with_tools : Moment → (faults calls : ℕ) → Moment
 with_tools m faults calls = record m { faults = record { disk = m.faults.disk; tools = faults }; calls = calls }
 
-pub lifts : (opens : Opens) (root : Text) (plan : Events → Plan) (start : State) (old new : Moment) (said : Said) (a b A B c d C D : ℕ) → A + b ≡ B + a → a ≤ A → C + d ≡ D + c → c ≤ C
-    → Performs opens root plan start (with_tools old a c) (with_tools new b d) said → Performs opens root plan start (with_tools old A C) (with_tools new B D) said
-lifts opens root plan start old new said a b A B c d C D more least calls few p = record {
+pub lifts : (opens : Opens) (root : Text) (plan : Events → Plan) (start : State) (old new : Moment) (outcome : Outcome) (a b A B c d C D : ℕ) → A + b ≡ B + a → a ≤ A → C + d ≡ D + c → c ≤ C
+    → Performs opens root plan start (with_tools old a c) (with_tools new b d) outcome → Performs opens root plan start (with_tools old A C) (with_tools new B D) outcome
+lifts opens root plan start old new outcome a b A B c d C D more least calls few p = record {
   events = p.events;
   stop = p.stop;
   tied = record { tools = omega (arith, more, least, p.tied.tools); disk = p.tied.disk };
-  says = p.says;
+  is = p.is;
   goes = record { within = p.goes.within; counted = p.goes.counted; state = p.goes.state; any_moment = p.goes.any_moment; at_end = p.goes.at_end; still = p.goes.still };
   calls = omega (arith, calls, few, p.calls);
   elsewhere = p.elsewhere;
 }
 
--- ---- answers that allocate
+-- ---- what there was no memory for
 
--- this is said, or the command wanted memory behind it
-pub performs_says : (opens : Opens) (root : Text) (plan : Events → Plan) (start : State) (old new : Moment) (wanted said : Said) → Performs opens root plan start old new wanted → Says wanted said → Performs opens root plan start old new said
-performs_says opens root plan start old new wanted said p (inl e) = subst (Performs opens root plan start old new) (sym e) p
-performs_says opens root plan start old new wanted said p (inr (own, e)) = subst (Performs opens root plan start old new) (sym e) (wants_memory opens root start plan old new wanted p)
+-- it comes to this, or the command wanted memory behind it
+pub performs_comes : (opens : Opens) (root : Text) (plan : Events → Plan) (start : State) (old new : Moment) (wanted outcome : Outcome) → Performs opens root plan start old new wanted → ComesTo wanted outcome → Performs opens root plan start old new outcome
+performs_comes opens root plan start old new wanted outcome p (inl e) = subst (Performs opens root plan start old new) (sym e) p
+performs_comes opens root plan start old new wanted outcome p (inr e) = subst (Performs opens root plan start old new) (sym e) (wants_memory opens root start plan old new wanted p)
 
 module _ (opens : Opens) (root : Text) (plan : Events → Plan) (start : State) (now : Moment) (stands : StandsFor opens root now.view.files start) (rest : IsAtRest root now.view) where
   -- there was no memory at the start
-  pub wants_first : Performs opens root plan start now now unsaid
+  pub wants_first : Performs opens root plan start now now (Refused NoMemory)
   wants_first = quiet_stop opens root start plan now now stands (still_same root now rest) Memory (λ e. absurd (cc)) (omega arith)
 
   -- a command that changes nothing and calls no tool
-  pub only_answers : (wanted said : Said) → plan calm ≡ answers wanted → Says wanted said → Performs opens root plan start now now said
-  only_answers wanted said is says = performs_says opens root plan start now now wanted said
-      (quiet opens root start plan now now stands (still_same root now rest) calm wanted 0 (calm_tied now.faults now.faults (omega arith)) (omega arith) is) says
-
--- ---- what the plans are that only answer
-
-unless_answers : (fault : Option BadName) (word : Text) (said : Said) → unless_bad fault word (answers said) ≡ answers (unless_bad fault word (answers said)).said
-unless_answers None word said = refl
-unless_answers (Some bad) word said = refl
-
-word_answers : (word : Text) (flat : Bool) (state : State) → list_word word flat state ≡ answers (list_word word flat state).said
-word_answers word flat state = unless_answers (folder_fault word) word (list_folder flat (without_slash word) (names_of state) state.mounts)
-
-pub ls_answers : (folder : Option Text) (flat : Bool) (state : State) → plan_ls folder flat state ≡ answers (plan_ls folder flat state).said
-ls_answers None flat state = word_answers (codes "/") flat state
-ls_answers (Some word) flat state = word_answers word flat state
-
--- ---- the word of `show`
-
-pub good_word : (fault : Option BadName) (word : Text) (plan : Plan) → fault ≡ None → unless_bad fault word plan ≡ plan
-good_word fault word plan e = ap (λ f. unless_bad f word plan) e
-
-pub bad_word : (fault : Option BadName) (word : Text) (plan : Plan) (bad : BadName) → fault ≡ Some bad → unless_bad fault word plan ≡ answers (refused 2 (bad_name bad.at word))
-bad_word fault word plan bad e = ap (λ f. unless_bad f word plan) e
+  pub only_answers : (wanted outcome : Outcome) → plan calm ≡ answers wanted → ComesTo wanted outcome → Performs opens root plan start now now outcome
+  only_answers wanted outcome is comes = performs_comes opens root plan start now now wanted outcome
+      (quiet opens root start plan now now stands (still_same root now rest) calm wanted 0 (calm_tied now.faults now.faults (omega arith)) (omega arith) is) comes
 
 -- ---- the first of the tools is called
 
@@ -89,14 +71,18 @@ module _ {D C : Type 0} {G : Ghosts D} (meaning : ToolMeaning C) (old new : Stor
   sum_has : (f : C → ℕ) → f tool ≤ sum_by f tools
   sum_has f = subst (λ (t : C). f t ≤ sum_by f tools) (sym first) (get_or-le-sum_by f tools 0 tool some)
 
-  pub lifts_performs : (opens : Opens) (root : Text) (plan : Events → Plan) (start : State) (said : Said) → Performs opens root plan start (moment_of old (one_tool meaning tool)) (moment_of new (one_tool meaning now)) said
-      → Performs opens root plan start (moment_of old (all_tools meaning tools)) (moment_of new (all_tools meaning (set tools 0 now))) said
-  lifts_performs opens root plan start said p = lifts opens root plan start (moment_of old (one_tool meaning tool)) (moment_of new (one_tool meaning now)) said
+  pub lifts_performs : (opens : Opens) (root : Text) (plan : Events → Plan) (start : State) (outcome : Outcome) → Performs opens root plan start (moment_of old (one_tool meaning tool)) (moment_of new (one_tool meaning now)) outcome
+      → Performs opens root plan start (moment_of old (all_tools meaning tools)) (moment_of new (all_tools meaning (set tools 0 now))) outcome
+  lifts_performs opens root plan start outcome p = lifts opens root plan start (moment_of old (one_tool meaning tool)) (moment_of new (one_tool meaning now)) outcome
       (meaning.faults tool) (meaning.faults now) (sum_by meaning.faults tools) (sum_by meaning.faults (set tools 0 now)) (meaning.calls tool) (meaning.calls now) (sum_by meaning.calls tools) (sum_by meaning.calls (set tools 0 now))
       (sum_moves meaning.faults) (sum_has meaning.faults) (sum_moves meaning.calls) (sum_has meaning.calls) p
 
-  pub lifts_keeps : (most status : ℕ) → Keeps most old new (one_tool meaning tool) (one_tool meaning now) status → Keeps most old new (all_tools meaning tools) (all_tools meaning (set tools 0 now)) status
-  lifts_keeps most status k = record {
+  pub lifts_does : (plan : Ring → State → Events → Plan) (outcome : Outcome) → Does plan old new (one_tool meaning tool) (one_tool meaning now) outcome → Does plan old new (all_tools meaning tools) (all_tools meaning (set tools 0 now)) outcome
+  lifts_does plan outcome does told tells ring have start s =
+      lifts_performs meaning.opens old.vault.root (plan ring start) start outcome (does told tells ring (subst (λ (t : C). meaning.ring t ≡ ring) (sym first) (have 0 tool some)) start s)
+
+  pub lifts_keeps : (most : ℕ) (outcome : Outcome) → Keeps most old new (one_tool meaning tool) (one_tool meaning now) outcome → Keeps most old new (all_tools meaning tools) (all_tools meaning (set tools 0 now)) outcome
+  lifts_keeps most outcome k = record {
     causes = record {
       tools = record {
         later = omega (arith, sum_moves meaning.faults, sum_has meaning.faults, k.causes.tools.later);
@@ -104,39 +90,97 @@ module _ {D C : Type 0} {G : Ghosts D} (meaning : ToolMeaning C) (old new : Stor
         stays = λ other. (let same = k.causes.tools.stays other in omega (arith, sum_moves meaning.faults, sum_has meaning.faults, same));
       };
       disk = k.causes.disk;
-      no_sink = k.causes.no_sink;
     };
     calls = omega (arith, sum_moves meaning.calls, sum_has meaning.calls, k.calls);
-    no_input = k.no_input;
     free = k.free;
     root = k.root;
     rings = λ ring have. All-set (λ t. meaning.ring t ≡ ring) tools 0 now (k.rings ring (ap meaning.ring first ∙ have 0 tool some)) have;
   }
 
--- what holds of an answer that tells no fault holds of want of memory in its place
-pub keeps_says : {D : Type 0} {G : Ghosts D} (most : ℕ) (old new : Store D G) (before after : Tools) (wanted said : Said) → Keeps most old new before after wanted.status → Says wanted said → Keeps most old new before after said.status
-keeps_says most old new before after wanted said k (inl e) = subst (λ (s : Said). Keeps most old new before after s.status) (sym e) k
-keeps_says most old new before after wanted said k (inr (own, e)) = record {
+-- ---- what is told
+
+-- a refusal about a name, as an outcome
+pub about_by : {T : Type 0} (name : Text) (printed : T → Text) (answer : Result T Refusal) → IfErr answer (IsAbout name) → IsOutcomeAbout name (outcome_by printed answer)
+about_by name printed (Ok x) about = tt
+about_by name printed (Err refusal) about = about
+
+-- an outcome whose status tells no fault of the outside tells none
+inner_status : (asked : Text) (outcome : Outcome) → IsInnerStatus (said_of asked outcome).status → IsInner outcome
+inner_status asked outcome own = record {
+  no_tool = λ name e. own.no_tool (ap (λ (o : Outcome). (said_of asked o).status) e);
+  no_disk = λ e. own.no_disk (ap (λ (o : Outcome). (said_of asked o).status) e);
+}
+
+-- what holds of an outcome that tells no fault holds of want of memory in its place
+keeps_memory : {D : Type 0} {G : Ghosts D} (most : ℕ) (old new : Store D G) (before after : Tools) (outcome : Outcome) → Keeps most old new before after outcome → IsInner outcome → Keeps most old new before after (Refused NoMemory)
+keeps_memory most old new before after outcome k own = record {
   causes = record {
     tools = record {
       later = k.causes.tools.later;
-      failed = λ is. absurd (differs 11 (sym is ∙ ap (λ (s : Said). s.status) e) (omega arith));
-      stays = λ other. k.causes.tools.stays own.no_tool;
+      failed = λ (name, is). absurd (other_fault (Tool name) is (λ e. cc));
+      stays = λ _. k.causes.tools.stays (λ (name, is). own.no_tool name is);
     };
     disk = record {
       later = k.causes.disk.later;
-      failed = λ is. absurd (differs 12 (sym is ∙ ap (λ (s : Said). s.status) e) (omega arith));
-      stays = λ other. k.causes.disk.stays own.no_disk;
+      failed = λ is. absurd (other_fault Disk is (λ e. cc));
+      stays = λ _. k.causes.disk.stays own.no_disk;
       once = k.causes.disk.once;
     };
-    no_sink = λ is. (let sixteen : 16 ≡ 14 = sym is ∙ ap (λ (s : Said). s.status) e in omega (arith, sixteen));
   };
   calls = k.calls;
-  no_input = λ is. (let fifteen : 15 ≡ 14 = sym is ∙ ap (λ (s : Said). s.status) e in omega (arith, fifteen));
-  free = λ disk memory. absurd (memory (ap (λ (s : Said). s.status) e));
+  free = λ disk memory. absurd (memory refl);
   root = k.root;
   rings = k.rings;
 }
   where
-    differs : (n : ℕ) → n ≡ 14 → n < 14 → ⊥
-    differs n e lt = omega (arith, e, lt)
+    why : Outcome → Refusal
+    why (Refused refusal) = refusal
+    why _ = NotFound
+
+    other_fault : (refusal : Refusal) → Refused NoMemory ≡ Refused refusal → (NoMemory ≡ refusal → ⊥) → ⊥
+    other_fault refusal is other = other (ap why is)
+
+-- a reply that says what a command came to, or that there was no memory for it
+pub answers_says : {D : Type 0} {G : Ghosts D} (plan : Ring → State → Events → Plan) (most : ℕ) (asked : Text) (old new : Store D G) (before after : Tools) (outcome : Outcome) (reply : Reply)
+    → Does plan old new before after outcome → Keeps most old new before after outcome → Says (said_of asked outcome) (said_in reply) → Answers plan most asked old new before after reply
+answers_says plan most asked old new before after outcome reply does keeps (inl e) = record { outcome = outcome; planned = does; keeps = keeps; says = e }
+answers_says plan most asked old new before after outcome reply does keeps (inr (own, e)) = record {
+  outcome = Refused NoMemory;
+  planned = λ told tells ring have start s. wants_memory before.opens old.vault.root start (plan ring start) (moment_of old before) (moment_of new after) outcome (does told tells ring have start s);
+  keeps = keeps_memory most old new before after outcome keeps (inner_status asked outcome own);
+  says = e;
+}
+
+-- where nothing was asked, an outcome that tells no fault of the outside has its causes
+pub keeps_same : {D : Type 0} {G : Ghosts D} (most : ℕ) (store : Store D G) (tools : Tools) (outcome : Outcome) → IsFalse store.vault.stuck → IsInner outcome → Keeps most store store tools tools outcome
+keeps_same most store tools outcome free own = record {
+  causes = record {
+    tools = record { later = omega arith; failed = λ (name, is). absurd (own.no_tool name is); stays = λ _. refl };
+    disk = record { later = omega arith; failed = λ is. absurd (own.no_disk is); stays = λ _. refl; once = omega arith };
+  };
+  calls = omega arith;
+  free = λ _ _. free;
+  root = refl;
+  rings = λ ring have. have;
+}
+
+-- a command of which a word names nothing, or for the words of which there was no memory
+pub answers_misread : {D : Type 0} {G : Ghosts D} (command : Command) (body : Option Text) (store : Store D G) (tools : Tools) (outcome : Outcome) (reply : Reply)
+    → (G.meaning.tells → IsAtRest store.vault.root (G.meaning.view store.vault.disk)) → IsFalse store.vault.stuck → IsInner outcome
+    → (outcome ≡ Refused NoMemory) ⊎ (asked_by command ≡ Err outcome) → Says (said_of [] outcome) (said_in reply)
+    → Answers (λ ring. plan_of ring command body) (most_calls command) (subject_of command) store store tools tools reply
+answers_misread {G = G} command body store tools outcome reply rest free own (inl none) says = record {
+  outcome = Refused NoMemory;
+  planned = λ told tells ring have start s. wants_first tools.opens store.vault.root (plan_of ring command body start) start (moment_of store tools) s (rest told);
+  keeps = keeps_same (most_calls command) store tools (Refused NoMemory) free (subst IsInner none own);
+  says = no_memory_said (said_in reply) (subst (λ (o : Outcome). Says (said_of [] o) (said_in reply)) none says);
+}
+  where
+    no_memory_said : (said : Said) → Says unsaid said → said ≡ unsaid
+    no_memory_said said (inl e) = e
+    no_memory_said said (inr (_, e)) = e
+answers_misread {G = G} command body store tools outcome reply rest free own (inr bad) says =
+    subst (λ (read : Result Asked Outcome). Answers (λ ring. plan_by ring read (body_in body)) (calls_by read) (subject_by read) store store tools tools reply) (sym bad)
+    (answers_says (λ ring. plan_by ring (Err outcome) (body_in body)) 0 [] store store tools tools outcome reply
+    (λ told tells ring have start s. only_answers tools.opens store.vault.root (plan_by ring (Err outcome) (body_in body) start) start (moment_of store tools) s (rest told) outcome outcome refl (inl refl))
+    (keeps_same 0 store tools outcome free own) says)

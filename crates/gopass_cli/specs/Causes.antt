@@ -1,11 +1,20 @@
 -- When a run may answer a fault of the outside, whether or not the outside tells its content.
 use Rattle.std.specs.Prelude.{◌≡◌, ◌≢◌, ◌⊎◌, ℕ, ◌≤◌}
-use Rattle.gopass_base.specs.Faults.{Rose}
+use Rattle.gopass_base.specs.Faults.{HasCause, Rose}
 use Rattle.io_ports.specs.Source.{Told, Grew}
 use Rattle.request_body.specs.Bodies.{Input, IsOver}
 use Rattle.request_body.specs.declared.body.BodyFault.TheVariants.{Long, Failed}
-use Rattle.store_core.specs.Said.{Said}
+use Rattle.store_core.specs.Moment.{Faults}
+use Rattle.store_core.specs.Does.{AreCaused}
+use Rattle.gopass_cli.specs.Said.{Said}
 use Rattle.gopass_cli.specs.Requests.{body_said}
+
+-- a fault of the tools (11) or of the disk (12) is told exactly where its count rose. That of the input or of a sink is not told,
+-- since none of them is asked
+pub record TellsCauses (old new : Faults) (status : ℕ) : Type 0 where
+  pub tools : AreCaused old.tools new.tools (status ≡ 11)
+  pub disk : HasCause old.disk new.disk (status ≡ 12)
+  pub no_sink : status ≢ 16
 
 -- how often the disk, the tools, the input and the two sinks have failed
 pub record AllFaults : Type 0 where

@@ -4,13 +4,13 @@ use Rattle.gopass_base.specs.Text.{Text}
 use Rattle.text_search.specs.Search.{names_with}
 use Rattle.listing_texts.specs.Lines.{on_lines}
 use Rattle.store_state.specs.State.{State}
-use Rattle.store_core.specs.Said.{Said, Plan, answers, granted}
+use Rattle.store_core.specs.Plans.{Outcome, Done, NoHit, Plan, answers}
 use Rattle.store_core.specs.Show.{names_of}
 
--- what is said of the lines that were found; where there is none the status is 1
-abbrev pub hits : Text → Said
-hits [] = record { status = 1; out = []; err = [] }
-hits (b ∷ lines) = granted (b ∷ lines)
+-- what the lines that were found come to; where there is none there is no hit
+abbrev pub hits : Text → Outcome
+hits [] = NoHit
+hits (b ∷ lines) = Done (b ∷ lines)
 
 -- `find` prints the names of the secrets that have the text
 abbrev pub plan_find : Text → State → Plan

@@ -1,4 +1,8 @@
-pub mod Words
+pub mod Statuses
+pub mod Texts
+pub mod Said
+pub mod Outcomes
+pub mod Asked
 pub mod Ls
 pub mod Find
 pub mod Mounts

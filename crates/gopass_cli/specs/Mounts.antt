@@ -1,8 +1,8 @@
 -- The plan of `mounts`.
 use Rattle.listing_texts.specs.MountLines.{mounts_listing}
 use Rattle.store_state.specs.State.{State}
-use Rattle.store_core.specs.Said.{Plan, answers, granted}
+use Rattle.store_core.specs.Plans.{Done, Plan, answers}
 
 -- `mounts` prints the mounts
 abbrev pub plan_mounts : State → Plan
-plan_mounts state = answers (granted (mounts_listing state.mounts))
+plan_mounts state = answers (Done (mounts_listing state.mounts))

@@ -16,9 +16,9 @@ use Rattle.store_state.specs.Faults.{IsFileFault}
 use Rattle.store_state.specs.Opening.{IsFound, OpensStore}
 use Rattle.store_state.specs.State.{State, StandsFor}
 use Rattle.store_core.specs.Events.{Events, TheDisk}
-use Rattle.store_core.specs.Performs.{stop_said}
-use Rattle.store_core.specs.Said.{Said, refused, unsaid}
-use Rattle.store_core.specs.Texts.{bad_line, limit_passed}
+use Rattle.gopass_cli.specs.declared.status.Status.TheVariants as status
+use Rattle.gopass_cli.specs.Said.{Said, refused, stop_said, unsaid}
+use Rattle.gopass_cli.specs.Texts.{bad_line, limit_passed}
 use Rattle.request_body.specs.Bodies.{Input}
 use Rattle.request_body.specs.Given.{IsLeft}
 use Rattle.gopass_cli.specs.Requests.{SaysOfRequest}
@@ -28,18 +28,18 @@ pub record SaysOfJournal (root : Text) (files : Files) (said : Said) : Type 0 wh
   pub bad : HasBadJournal root files
   pub line : ℕ
   pub of_journal : IsJournalLine root files line
-  pub says : said ≡ refused 6 (bad_line (journal_path root) line)
+  pub says : said ≡ refused status.BadFile (bad_line (journal_path root) line)
 
 -- what is said of a vault that is refused
 abbrev pub vault_said : Text → VaultFault → Said
-vault_said root (BadJournal line) = refused 6 (bad_line (journal_path root) line)
+vault_said root (BadJournal line) = refused status.BadFile (bad_line (journal_path root) line)
 vault_said root NoVaultDisk = stop_said TheDisk
 vault_said root NoVaultRoom = unsaid
 
 -- what is said of a store that is refused
 abbrev pub fault_said : StoreFault → Said
-fault_said (BadFile path line) = refused 6 (bad_line path line)
-fault_said (Full limit) = refused 10 (limit_passed limit)
+fault_said (BadFile path line) = refused status.BadFile (bad_line path line)
+fault_said (Full limit) = refused status.LimitPassed (limit_passed limit)
 fault_said Disk = stop_said TheDisk
 fault_said NoMemory = unsaid
 

@@ -3,8 +3,8 @@ use Rattle.std.specs.Prelude.{◌≡◌, ◌⊎◌, ◌==◌, ℕ, codes, Option
 use Rattle.gopass_base.specs.Text.{Text}
 use Rattle.gopass_base.specs.Faults.{Rose}
 use Rattle.io_ports.specs.Sink.{SinkMeaning, Took, TookPart}
-use Rattle.store_core.specs.Said.{Said}
-use Rattle.store_core.specs.Texts.{err_line}
+use Rattle.gopass_cli.specs.Said.{Said}
+use Rattle.gopass_cli.specs.Texts.{err_line}
 
 -- a sink at a moment: what it took, where it tells it, and how often a call failed
 pub record Stream : Type 0 where

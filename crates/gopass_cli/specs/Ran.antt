@@ -8,7 +8,7 @@ use Rattle.io_ports.specs.Source.{SourceMeaning, Told}
 use Rattle.store_state.specs.State.{State}
 use Rattle.store_core.specs.Events.{calm}
 use Rattle.store_core.specs.Moment.{HaveRing}
-use Rattle.store_core.specs.Said.{Said}
+use Rattle.gopass_cli.specs.Said.{Said}
 use Rattle.request_body.specs.Bodies.{IsOver, input_of}
 use Rattle.command_words.specs.Words.{words_in}
 use Rattle.gopass_cli.specs.Asks.{CallsTools, TakesInput}

@@ -1,8 +1,8 @@
 -- The plan of `recipients`.
 use Rattle.listing_texts.specs.RuleLines.{recipients_listing}
 use Rattle.store_state.specs.State.{State}
-use Rattle.store_core.specs.Said.{Plan, answers, granted}
+use Rattle.store_core.specs.Plans.{Done, Plan, answers}
 
 -- `recipients` prints the folders that have a rule, each with its ids
 abbrev pub plan_recipients : State → Plan
-plan_recipients state = answers (granted (recipients_listing state.rules))
+plan_recipients state = answers (Done (recipients_listing state.rules))

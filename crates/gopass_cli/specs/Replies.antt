@@ -1,6 +1,15 @@
--- Replies as what they say.
+-- Replies as what they say, and what a turn ensures of its reply.
 use Rattle.std.specs.Prelude.{◌≡◌, ◌≢◌, ◌⊎◌, ℕ}
-use Rattle.store_core.specs.Said.{Said, unsaid}
+use Rattle.gopass_base.specs.Text.{Text}
+use Rattle.disk_model.specs.declared.disk.Disk.{Ghosts}
+use Rattle.cipher_port.specs.Tool.{Ring}
+use Rattle.store_state.specs.State.{State}
+use Rattle.store_core.specs.declared.store.Store.{Store}
+use Rattle.store_core.specs.Events.{Events}
+use Rattle.store_core.specs.Moment.{Tools}
+use Rattle.store_core.specs.Plans.{Outcome, Plan}
+use Rattle.store_core.specs.Does.{Does, Keeps}
+use Rattle.gopass_cli.specs.Said.{Said, said_of, unsaid}
 use Rattle.gopass_cli.specs.declared.reply.Reply.{Reply}
 
 abbrev pub said_in : Reply → Said
@@ -16,3 +25,11 @@ pub record IsInnerStatus (status : ℕ) : Type 0 where
 -- this is said, or there was no memory for it; a fault of the outside is said in any case
 abbrev pub Says : Said → Said → Type 0
 Says wanted said = (said ≡ wanted) ⊎ (IsInnerStatus wanted.status × (said ≡ unsaid))
+
+-- a command on a store, which was asked for this, came to an outcome, and the reply says it. Where disk and tools tell, it is
+-- what was planned; told or not, it has its causes, and tools are called so often at most
+pub record Answers {D : Type 0} {G : Ghosts D} (plan : Ring → State → Events → Plan) (most : ℕ) (asked : Text) (old new : Store D G) (before after : Tools) (reply : Reply) : Type 0 where
+  pub outcome : Outcome
+  pub planned : Does plan old new before after outcome
+  pub keeps : Keeps most old new before after outcome
+  pub says : said_in reply ≡ said_of asked outcome

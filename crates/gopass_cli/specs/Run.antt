@@ -7,18 +7,19 @@ use Rattle.cipher_port.specs.Tool.{Opens, Ring, ToolMeaning}
 use Rattle.command_words.specs.Said.{Asked, asked_by}
 use Rattle.command_words.specs.Words.{words_in}
 use Rattle.command_words.specs.declared.command.Command.{Command}
-use Rattle.store_core.specs.Said.{Said, refused}
-use Rattle.store_core.specs.Texts.{bad_words}
+use Rattle.gopass_cli.specs.declared.status.Status.TheVariants.{BadWords}
+use Rattle.gopass_cli.specs.Said.{Said, refused, stop_said}
+use Rattle.gopass_cli.specs.Texts.{bad_words}
 use Rattle.store_core.specs.Events.{Events, Stop}
 use Rattle.store_core.specs.Moment.{Faults, HaveRing}
-use Rattle.store_core.specs.Performs.{IsTied, stop_said}
+use Rattle.store_core.specs.Performs.{IsTied}
 use Rattle.request_body.specs.Bodies.{Input}
 use Rattle.request_body.specs.Given.{IsLeft}
 use Rattle.gopass_cli.specs.Opening.{SaysOfCommand}
 
 -- what is said of the command that the words give, or of the first word that is bad
 abbrev pub SaysOfWords : Result Asked ℕ → Opens → Text → Files → Input → Ring → Events → Said → Type 0
-SaysOfWords (Err at) opens root files input ring events said = (said ≡ refused 2 (bad_words at)) × IsLeft input
+SaysOfWords (Err at) opens root files input ring events said = (said ≡ refused BadWords (bad_words at)) × IsLeft input
 SaysOfWords (Ok asked) opens root files input ring events said = (command : Command) × (asked ≡ asked_by command) × SaysOfCommand opens root files input ring command events said
 
 -- what a run says for these words on these files, in the order: words, opening, the body, and the plan of the command

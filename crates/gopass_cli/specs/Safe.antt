@@ -17,7 +17,9 @@ use Rattle.store_core.specs.Moment.{Faults}
 use Rattle.store_core.specs.Performs.{IsTied, LeftFor, IsReached, cut_off, answered}
 use Rattle.request_body.specs.Bodies.{Input}
 use Rattle.gopass_cli.specs.Asks.{GiveCommand}
+use Rattle.gopass_cli.specs.Asked.{subject_of}
 use Rattle.gopass_cli.specs.Plan.{plan_of}
+use Rattle.gopass_cli.specs.Said.{said_of}
 use Rattle.request_body.specs.Given.{IsGiven}
 
 -- what a crash left stands for one of these states
@@ -64,7 +66,7 @@ pub record Went (opens : Opens) (root : Text) (ring : Ring) (command : Command) 
   pub events : Events
   pub stop : Option Stop
   pub tied : IsTied faults now_faults events stop
-  pub says : status ≢ 16 → status ≡ (cut_off stop (plan_of ring command body start events)).said.status
+  pub says : status ≢ 16 → status ≡ (said_of (subject_of command) (cut_off stop (plan_of ring command body start events)).outcome).status
   pub any_moment : Leaves (IsOneOf opens root (before ++ (cut_off stop (plan_of ring command body start events)).states)) old new
   pub at_end : (m : Files) → new.images m → IsReached opens root start (cut_off stop (plan_of ring command body start events)).states (answered stop (plan_of ring command body start events)) m
   pub others : KeepsOthers root (plan_of ring command body start events).changes found.0 old new

@@ -7,9 +7,10 @@ ghost use Rattle.pending_journal.specs.Redo.{RecoversTo};
 ghost use Rattle.cipher_port.specs.Tool.{Ring};
 ghost use Rattle.store_state.specs.State.{State, StandsFor};
 ghost use Rattle.store_core.specs.Moment.{HaveRing};
-ghost use Rattle.store_core.specs.Does.{HasCauses};
 ghost use Rattle.gopass_cli.specs.Opening.{SaysOfCommand, fault_said, vault_said};
-ghost use Rattle.gopass_cli.specs.Causes.{HasInputCause};
+ghost use Rattle.gopass_cli.specs.Asked.{subject_of};
+ghost use Rattle.gopass_cli.specs.Causes.{HasInputCause, TellsCauses};
+ghost use Rattle.gopass_cli.specs.Said.{said_of};
 ghost use Rattle.request_body.specs.Bodies.{Input, input_of};
 ghost use Rattle.gopass_cli.specs.Plan.{most_calls, plan_of};
 ghost use Rattle.gopass_cli.specs.Asks.{CallsTools, TakesInput};
@@ -24,6 +25,7 @@ use crate::lines::{DiskLine, InputLines, RunLines};
 use crate::reply::{
     Reply, no_memory, refuse_limit, refuse_line, refuse_with, refuse_words, tell_disk, tell_fault,
 };
+use crate::status::Status;
 use crate::turns::{Request, turn};
 use cipher_port::Cipher;
 use command_words::{Command, WordsFault, read_words};
@@ -61,9 +63,9 @@ fn refuse_body(alloc: Global, lines: InputLines, fault: BodyFault) -> Reply
     ensures { Says (body_said fault) (said_in result) }
 {
     match fault {
-        BodyFault::Missing => refuse_with(alloc, 2, "no body"),
-        BodyFault::Long => tell_fault(alloc, 15, lines.long),
-        BodyFault::Failed => tell_fault(alloc, 15, lines.failed),
+        BodyFault::Missing => refuse_with(alloc, Status::BadWords, "no body"),
+        BodyFault::Long => tell_fault(alloc, Status::InputFailed, lines.long),
+        BodyFault::Failed => tell_fault(alloc, Status::InputFailed, lines.failed),
         BodyFault::NoMemory => no_memory(alloc),
     }
 }
@@ -95,7 +97,7 @@ fn answer_turn<D: Disk + Send, C: Cipher + Send>(
     requires fits { is_some body ≡ takes_body command }
     ensures answers { (state : State) → StandsFor C.meaning.opens store.vault.root (D.meaning.view store.vault.disk).files state
         → SaidWhereTold D.meaning C.meaning store.vault.disk result.disk tools.old.items tools.new.items
-        (λ ring events said. said ≡ (plan_of ring command (bytes_of body) state events).said) (said_in result.reply) }
+        (λ ring events said. said ≡ said_of (subject_of command) (plan_of ring command (bytes_of body) state events).outcome) (said_in result.reply) }
     ensures went { (state : State) → StandsFor C.meaning.opens store.vault.root (D.meaning.view store.vault.disk).files state
         → D.meaning.tells → C.meaning.tells → (ring : Ring) → HaveRing C.meaning tools.old.items ring
         → (before : List State) → Contains before state → (input : Input) → IsGiven command input (bytes_of body)
@@ -104,7 +106,7 @@ fn answer_turn<D: Disk + Send, C: Cipher + Send>(
     ensures calls { sum_by C.meaning.calls tools.new.items ≤ sum_by C.meaning.calls tools.old.items + most_calls command }
     ensures rings { (ring : Ring) → HaveRing C.meaning tools.old.items ring → HaveRing C.meaning tools.new.items ring }
     ensures count { vec_len tools.new ≡ vec_len tools.old }
-    ensures causes { HasCauses (faults_of D.meaning store.vault.disk C.meaning tools.old.items)
+    ensures causes { TellsCauses (faults_of D.meaning store.vault.disk C.meaning tools.old.items)
         (faults_of D.meaning result.disk C.meaning tools.new.items) result.reply.status }
     ensures no_input { result.reply.status ≢ 15 }
 {
@@ -142,7 +144,7 @@ fn answer_open<D: Disk + Send, C: Cipher + Send, S: Source>(
     ensures left { takes_body command ≡ false → input.new ≡ input.old }
     ensures rings { (ring : Ring) → HaveRing C.meaning tools.old.items ring → HaveRing C.meaning tools.new.items ring }
     ensures count { vec_len tools.new ≡ vec_len tools.old }
-    ensures causes { HasCauses (faults_of D.meaning store.vault.disk C.meaning tools.old.items)
+    ensures causes { TellsCauses (faults_of D.meaning store.vault.disk C.meaning tools.old.items)
         (faults_of D.meaning result.disk C.meaning tools.new.items) result.reply.status }
     ensures input { HasInputCause (input_of S.meaning input.old input.new) (said_in result.reply) }
 {
@@ -181,7 +183,7 @@ fn answer_vault<D: Disk + Send, C: Cipher + Send, S: Source>(
     ensures left { takes_body command ≡ false → input.new ≡ input.old }
     ensures rings { (ring : Ring) → HaveRing C.meaning tools.old.items ring → HaveRing C.meaning tools.new.items ring }
     ensures count { vec_len tools.new ≡ vec_len tools.old }
-    ensures causes { HasCauses (faults_of D.meaning vault.disk C.meaning tools.old.items)
+    ensures causes { TellsCauses (faults_of D.meaning vault.disk C.meaning tools.old.items)
         (faults_of D.meaning result.disk C.meaning tools.new.items) result.reply.status }
     ensures input { HasInputCause (input_of S.meaning input.old input.new) (said_in result.reply) }
 {
@@ -223,7 +225,7 @@ fn answer_command<D: Disk + Send, C: Cipher + Send, S: Source>(
     ensures left { takes_body command ≡ false → input.new ≡ input.old }
     ensures rings { (ring : Ring) → HaveRing C.meaning tools.old.items ring → HaveRing C.meaning tools.new.items ring }
     ensures count { vec_len tools.new ≡ vec_len tools.old }
-    ensures causes { HasCauses (faults_of D.meaning disk C.meaning tools.old.items)
+    ensures causes { TellsCauses (faults_of D.meaning disk C.meaning tools.old.items)
         (faults_of D.meaning result.disk C.meaning tools.new.items) result.reply.status }
     ensures input { HasInputCause (input_of S.meaning input.old input.new) (said_in result.reply) }
 {
@@ -261,7 +263,7 @@ pub(crate) fn answer<D: Disk + Send, C: Cipher + Send, S: Source>(
     ensures nobody { (at : ℕ) → words_in (map string_bytes words.now) ≡ Err at → (result.disk ≡ disk) × (tools.new.items ≡ tools.old.items) × (input.new ≡ input.old) }
     ensures rings { (ring : Ring) → HaveRing C.meaning tools.old.items ring → HaveRing C.meaning tools.new.items ring }
     ensures count { vec_len tools.new ≡ vec_len tools.old }
-    ensures causes { HasCauses (faults_of D.meaning disk C.meaning tools.old.items)
+    ensures causes { TellsCauses (faults_of D.meaning disk C.meaning tools.old.items)
         (faults_of D.meaning result.disk C.meaning tools.new.items) result.reply.status }
     ensures input { HasInputCause (input_of S.meaning input.old input.new) (said_in result.reply) }
 {

@@ -1,15 +1,18 @@
 //! The lines that tell faults of the outside. They are made before it is asked, so that no fault is told
 //! as want of memory.
 
-ghost use Rattle.std.specs.Prelude.{◌≡◌, codes, IfOk, Err, IsOk};
-ghost use Rattle.mount_table.specs.Names.{IsName};
-ghost use Rattle.mount_table.specs.NameFaults.{IsNameFault};
-ghost use Rattle.mount_table.specs.declared.name.BadName.{BadName};
-ghost use Rattle.store_core.specs.Texts.{err_line, tool_failed};
+ghost use Rattle.std.specs.Prelude.{◌≡◌, ◌⊎◌, codes, IfErr, IfOk, Err, Ok};
+ghost use Rattle.store_core.specs.Plans.{Refused};
+ghost use Rattle.store_core.specs.declared.refusal.Refusal.TheVariants as refusal;
+ghost use Rattle.gopass_cli.specs.Asked.{asked_by, subject};
+ghost use Rattle.gopass_cli.specs.Outcomes.{IsInner, meant};
+ghost use Rattle.gopass_cli.specs.Texts.{err_line, tool_failed};
 
+use crate::asked::Asked;
+use crate::outcome::{Outcome, no_memory};
 use crate::texts;
+use command_words::Command;
 use gopass_base::NoMemory;
-use mount_table::{Name, NameFault};
 use std::alloc::Global;
 
 /// The line of a fault of the disk.
@@ -61,25 +64,34 @@ impl RunLines {
     }
 }
 
-/// The name of a secret, and the lines of the faults that a command on it may meet.
+/// What is asked of a store, and the lines of the faults that may be met.
 #[derive(Debug, Drop)]
-pub(crate) struct SecretLines {
-    pub(crate) name: Name,
+pub(crate) struct TurnLines {
+    pub(crate) asked: Asked,
     pub(crate) disk: DiskLine,
     pub(crate) tool: Vec<u8>,
-    ghost says: { tool.items ≡ err_line (tool_failed name) },
+    ghost says: { tool.items ≡ err_line (tool_failed (subject asked)) },
 }
 
-impl SecretLines {
-    /// The name that the word is, or where it stops being one.
-    pub(crate) fn read(alloc: Global, word: &str) -> Result<SecretLines, NameFault>
-        ensures name { IfOk result (λ lines. lines.name ≡ word.now) }
-        ensures good { IsOk result → IsName word.now }
-        ensures fault { (bad : BadName) → result ≡ Err (NameFault.Bad bad) → IsNameFault word.now bad }
+impl TurnLines {
+    fn new(alloc: Global, asked: Asked) -> Result<TurnLines, NoMemory>
+        ensures { IfOk result (λ lines. lines.asked ≡ asked) }
     {
-        let name = Name::read(alloc, word)?;
         let disk = DiskLine::new(alloc)?;
-        let tool = texts::tool_line(alloc, name.text())?;
-        Ok(SecretLines { name, disk, tool })
+        let tool = texts::tool_line(alloc, asked.subject())?;
+        Ok(TurnLines { asked, disk, tool })
+    }
+
+    /// What the command asks, with its lines.
+    pub(crate) fn read(alloc: Global, command: &Command) -> Result<TurnLines, Outcome>
+        ensures good { IfOk result (λ lines. asked_by command.now ≡ Ok lines.asked) }
+        ensures bad { IfErr result (λ outcome. (meant outcome ≡ Refused refusal.NoMemory) ⊎ (asked_by command.now ≡ Err (meant outcome))) }
+        ensures own { IfErr result (λ outcome. IsInner (meant outcome)) }
+    {
+        let asked = Asked::read(alloc, command)?;
+        match TurnLines::new(alloc, asked) {
+            Ok(lines) => Ok(lines),
+            Err(_) => Err(no_memory()),
+        }
     }
 }

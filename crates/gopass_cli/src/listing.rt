@@ -1,35 +1,36 @@
 //! The commands that print what a store has: `ls`, `find`, `mounts` and `recipients`.
 
-ghost use Rattle.std.specs.Prelude.{◌≡◌, ◌||◌, IsFalse, IfOk, All, List, string_bytes, option_map, bytes_eq};
+ghost use Rattle.std.specs.Prelude.{◌≡◌, ◌||◌, IsFalse, IfOk, All, List, bytes_eq};
 ghost use Rattle.gopass_base.specs.Text.{Text};
 ghost use Rattle.mount_table.specs.Prefixes.{Holds};
-ghost use Rattle.store_core.specs.Said.{granted};
+ghost use Rattle.store_core.specs.Plans.{Done};
 ghost use Rattle.store_core.specs.Reads.{rows_under};
 ghost use Rattle.store_core.specs.Show.{holds_one};
-ghost use Rattle.gopass_cli.specs.Replies.{IsInnerStatus, Says, said_in};
-ghost use Rattle.gopass_cli.specs.Listings.{SaysInState};
-ghost use Rattle.gopass_cli.specs.Ls.{is_alias, listed, list_folder, list_word, plan_ls};
+ghost use Rattle.gopass_cli.specs.Outcomes.{ComesTo, IsInner, IsOutcomeAbout, meant};
+ghost use Rattle.gopass_cli.specs.Listings.{InState};
+ghost use Rattle.gopass_cli.specs.Ls.{is_alias, listed, plan_ls};
 ghost use Rattle.gopass_cli.specs.Find.{hits, plan_find};
 ghost use Rattle.gopass_cli.specs.Mounts.{plan_mounts};
 ghost use Rattle.gopass_cli.specs.Recipients.{plan_recipients};
 
-use crate::reply::{Reply, grant, no_memory, refuse_missing, refuse_name};
+use crate::outcome::{Outcome, no_memory};
 use disk_model::Disk;
 use gopass_base::NoMemory;
 use listing_texts::{mounts_text, on_lines, recipients_text, tree_of};
-use mount_table::{Folder, Mounts, Name, NameFault};
+use mount_table::{Folder, Mounts, Name};
 use std::alloc::Global;
-use store_core::Store;
+use store_core::{Refusal, Store};
 use text_search::names_with;
 
-/// The answer that prints the text, where there is memory for it.
-fn print_text(alloc: Global, text: Result<Vec<u8>, NoMemory>) -> Reply
-    ensures says { (wanted : Text) → IfOk text (λ t. t.items ≡ wanted) → Says (granted wanted) (said_in result) }
-    ensures own { IsInnerStatus result.status }
+/// What the text comes to, where there is memory for it.
+fn print_text(text: Result<Vec<u8>, NoMemory>) -> Outcome
+    ensures says { (wanted : Text) → IfOk text (λ t. t.items ≡ wanted) → ComesTo (Done wanted) (meant result) }
+    ensures own { IsInner (meant result) }
+    ensures about { (asked : Text) → IsOutcomeAbout asked (meant result) }
 {
     match text {
-        Ok(text) => grant(alloc, text),
-        Err(_) => no_memory(alloc),
+        Ok(text) => Outcome::Done(text),
+        Err(_) => no_memory(),
     }
 }
 
@@ -65,104 +66,77 @@ fn is_there(mounts: &Mounts, folder: &Folder, names: &[Name]) -> bool
     !names.is_empty() || is_alias(mounts, folder)
 }
 
-/// The answer of `ls` for a folder.
-fn list_folder<D: Disk>(alloc: Global, store: &Store<D>, folder: &Folder, flat: bool) -> Reply
-    ensures says { Says (list_folder flat folder.now store.now.found.seen.names.items store.now.found.mounts) (said_in result) }
-    ensures own { IsInnerStatus result.status }
+/// `ls FOLDER`: the secrets of the folder.
+pub(crate) fn ls<D: Disk>(alloc: Global, store: &Store<D>, folder: &Folder, flat: bool) -> Outcome
+    requires free { IsFalse store.now.vault.stuck }
+    ensures lists { InState store.now (λ state. (plan_ls folder.now flat state).outcome) (meant result) }
+    ensures own { IsInner (meant result) }
+    ensures about { (asked : Text) → IsOutcomeAbout asked (meant result) }
 {
     match store.rows_under(folder) {
         Ok(names) => {
             if !is_there(store.mounts(), folder, &names) {
-                return refuse_missing(alloc, folder.text());
+                return Outcome::Refused(Refusal::NotFound);
             }
-            print_text(alloc, listed(alloc, flat, folder, &names))
+            print_text(listed(alloc, flat, folder, &names))
         }
-        Err(_) => no_memory(alloc),
+        Err(_) => no_memory(),
     }
 }
 
-/// The answer of `ls` for a word.
-fn list_word<D: Disk>(alloc: Global, store: &Store<D>, word: &str, flat: bool) -> Reply
-    requires free { IsFalse store.now.vault.stuck }
-    ensures lists { SaysInState store.now (λ state. (list_word word.now flat state).said) (said_in result) }
-    ensures own { IsInnerStatus result.status }
-{
-    match Folder::read(alloc, word) {
-        Ok(folder) => list_folder(alloc, store, &folder, flat),
-        Err(NameFault::Bad(bad)) => refuse_name(alloc, bad.at, word),
-        Err(NameFault::NoMemory) => no_memory(alloc),
-    }
-}
-
-/// `ls [FOLDER]`: the secrets of the folder, or of the root folder.
-pub(crate) fn ls<D: Disk>(
-    alloc: Global,
-    store: &Store<D>,
-    folder: &Option<String>,
-    flat: bool,
-) -> Reply
-    requires free { IsFalse store.now.vault.stuck }
-    ensures lists { SaysInState store.now (λ state. (plan_ls (option_map string_bytes folder.now) flat state).said) (said_in result) }
-    ensures own { IsInnerStatus result.status }
-{
-    match folder {
-        Some(word) => list_word(alloc, store, word, flat),
-        None => list_word(alloc, store, "/", flat),
-    }
-}
-
-/// The answer that prints these lines; where there is none the status is 1.
-fn hits(alloc: Global, lines: Vec<u8>) -> Reply
-    ensures says { said_in result ≡ hits lines.items }
-    ensures own { IsInnerStatus result.status }
+/// What these lines come to; where there is none there is no hit.
+fn hits(lines: Vec<u8>) -> Outcome
+    ensures says { meant result ≡ hits lines.items }
+    ensures own { IsInner (meant result) }
+    ensures about { (asked : Text) → IsOutcomeAbout asked (meant result) }
 {
     if lines.is_empty() {
-        return Reply {
-            status: 1,
-            out: lines,
-            err: Vec::new(alloc),
-        };
+        return Outcome::NoHit;
     }
-    grant(alloc, lines)
+    Outcome::Done(lines)
 }
 
 /// The same, where there is memory for the lines.
-fn print_hits(alloc: Global, lines: Result<Vec<u8>, NoMemory>) -> Reply
-    ensures says { (wanted : Text) → IfOk lines (λ l. l.items ≡ wanted) → Says (hits wanted) (said_in result) }
-    ensures own { IsInnerStatus result.status }
+fn print_hits(lines: Result<Vec<u8>, NoMemory>) -> Outcome
+    ensures says { (wanted : Text) → IfOk lines (λ l. l.items ≡ wanted) → ComesTo (hits wanted) (meant result) }
+    ensures own { IsInner (meant result) }
+    ensures about { (asked : Text) → IsOutcomeAbout asked (meant result) }
 {
     match lines {
-        Ok(lines) => hits(alloc, lines),
-        Err(_) => no_memory(alloc),
+        Ok(lines) => hits(lines),
+        Err(_) => no_memory(),
     }
 }
 
 /// `find TEXT`: the names of the secrets that have the text.
-pub(crate) fn find<D: Disk>(alloc: Global, store: &Store<D>, text: &str) -> Reply
+pub(crate) fn find<D: Disk>(alloc: Global, store: &Store<D>, text: &str) -> Outcome
     requires free { IsFalse store.now.vault.stuck }
-    ensures lists { SaysInState store.now (λ state. (plan_find text.now state).said) (said_in result) }
-    ensures own { IsInnerStatus result.status }
+    ensures lists { InState store.now (λ state. (plan_find text.now state).outcome) (meant result) }
+    ensures own { IsInner (meant result) }
+    ensures about { (asked : Text) → IsOutcomeAbout asked (meant result) }
 {
     match names_with(alloc, store.names(), text) {
-        Ok(names) => print_hits(alloc, on_lines(alloc, &names)),
-        Err(_) => no_memory(alloc),
+        Ok(names) => print_hits(on_lines(alloc, &names)),
+        Err(_) => no_memory(),
     }
 }
 
 /// `mounts`: the mounts, a line for each.
-pub(crate) fn mounts<D: Disk>(alloc: Global, store: &Store<D>) -> Reply
+pub(crate) fn mounts<D: Disk>(alloc: Global, store: &Store<D>) -> Outcome
     requires free { IsFalse store.now.vault.stuck }
-    ensures lists { SaysInState store.now (λ state. (plan_mounts state).said) (said_in result) }
-    ensures own { IsInnerStatus result.status }
+    ensures lists { InState store.now (λ state. (plan_mounts state).outcome) (meant result) }
+    ensures own { IsInner (meant result) }
+    ensures about { (asked : Text) → IsOutcomeAbout asked (meant result) }
 {
-    print_text(alloc, mounts_text(alloc, store.mounts()))
+    print_text(mounts_text(alloc, store.mounts()))
 }
 
 /// `recipients`: the folders that have a rule, each with its ids.
-pub(crate) fn recipients<D: Disk>(alloc: Global, store: &Store<D>) -> Reply
+pub(crate) fn recipients<D: Disk>(alloc: Global, store: &Store<D>) -> Outcome
     requires free { IsFalse store.now.vault.stuck }
-    ensures lists { SaysInState store.now (λ state. (plan_recipients state).said) (said_in result) }
-    ensures own { IsInnerStatus result.status }
+    ensures lists { InState store.now (λ state. (plan_recipients state).outcome) (meant result) }
+    ensures own { IsInner (meant result) }
+    ensures about { (asked : Text) → IsOutcomeAbout asked (meant result) }
 {
-    print_text(alloc, recipients_text(alloc, store.rules()))
+    print_text(recipients_text(alloc, store.rules()))
 }

@@ -3,13 +3,17 @@
 ghost use Rattle.std.specs.Prelude.{◌≡◌, [], IfOk, string_bytes};
 ghost use Rattle.gopass_base.specs.Text.{Text};
 ghost use Rattle.store_core.specs.Events.{TheDisk};
-ghost use Rattle.store_core.specs.Performs.{stop_said};
-ghost use Rattle.store_core.specs.Said.{granted, refused, unsaid};
-ghost use Rattle.store_core.specs.Texts.{bad_words, bad_name, bad_line, limit_passed, not_in_the_store};
-ghost use Rattle.store_core.specs.Refusals.{IsAbout, status_of, refusal_said};
+ghost use Rattle.gopass_cli.specs.declared.status.Status.TheVariants as status;
+ghost use Rattle.gopass_cli.specs.Asked.{subject};
+ghost use Rattle.gopass_cli.specs.Outcomes.{IsInner, IsOutcomeAbout, meant};
+ghost use Rattle.gopass_cli.specs.Said.{granted, refusal_said, refused, said_of, silent, stop_said, unsaid};
+ghost use Rattle.gopass_cli.specs.Statuses.{code, status_of};
+ghost use Rattle.gopass_cli.specs.Texts.{bad_line, bad_words, limit_passed};
 ghost use Rattle.gopass_cli.specs.Replies.{IsInnerStatus, said_in, Says};
 
-use crate::lines::{DiskLine, SecretLines};
+use crate::lines::{DiskLine, TurnLines};
+use crate::outcome::Outcome;
+use crate::status::{Status, status_of};
 use crate::texts;
 use std::alloc::{AllocError, Global};
 use store_core::Refusal;
@@ -23,29 +27,24 @@ pub struct Reply {
     pub err: Vec<u8>,
 }
 
-fn status_of(refusal: &Refusal) -> u8
-    ensures { result ≡ status_of refusal.now }
-{
-    match refusal {
-        Refusal::NotFound | Refusal::IsFolder => 3,
-        Refusal::Exists(_) => 4,
-        Refusal::NoRule(_) => 7,
-        Refusal::UnknownId(_) => 9,
-        Refusal::Full(_) => 10,
-        Refusal::NoKey(_) | Refusal::NotSealed(_) => 8,
-        Refusal::Tool(_) => 11,
-        Refusal::Disk => 12,
-        Refusal::NoMemory => 14,
-    }
-}
-
 /// The answer of a command that did what it was asked.
-pub(crate) fn grant(alloc: Global, out: Vec<u8>) -> Reply
+fn grant(alloc: Global, out: Vec<u8>) -> Reply
     ensures { said_in result ≡ granted out.items }
 {
     Reply {
-        status: 0,
+        status: Status::Done.code(),
         out,
+        err: Vec::new(alloc),
+    }
+}
+
+/// The answer that is a status alone.
+fn silent(alloc: Global, status: Status) -> Reply
+    ensures { said_in result ≡ silent status }
+{
+    Reply {
+        status: status.code(),
+        out: Vec::new(alloc),
         err: Vec::new(alloc),
     }
 }
@@ -54,19 +53,15 @@ pub(crate) fn grant(alloc: Global, out: Vec<u8>) -> Reply
 pub(crate) fn no_memory(alloc: Global) -> Reply
     ensures { said_in result ≡ unsaid }
 {
-    Reply {
-        status: 14,
-        out: Vec::new(alloc),
-        err: Vec::new(alloc),
-    }
+    silent(alloc, Status::NoMemory)
 }
 
 /// The answer that tells a fault of the outside, by a line that was made before.
-pub(crate) fn tell_fault(alloc: Global, status: u8, line: Vec<u8>) -> Reply
-    ensures { said_in result ≡ record { status = status; out = []; err = line.items } }
+pub(crate) fn tell_fault(alloc: Global, status: Status, line: Vec<u8>) -> Reply
+    ensures { said_in result ≡ record { status = code status; out = []; err = line.items } }
 {
     Reply {
-        status,
+        status: status.code(),
         out: Vec::new(alloc),
         err: line,
     }
@@ -76,17 +71,17 @@ pub(crate) fn tell_fault(alloc: Global, status: u8, line: Vec<u8>) -> Reply
 pub(crate) fn tell_disk(alloc: Global, disk: DiskLine) -> Reply
     ensures { said_in result ≡ stop_said TheDisk }
 {
-    tell_fault(alloc, 12, disk.line)
+    tell_fault(alloc, Status::DiskFailed, disk.line)
 }
 
 /// The answer of a command that is refused with this status and text.
-pub(crate) fn refuse_with(alloc: Global, status: u8, text: &str) -> Reply
-    requires { IsInnerStatus status }
+pub(crate) fn refuse_with(alloc: Global, status: Status, text: &str) -> Reply
+    requires { IsInnerStatus (code status) }
     ensures { Says (refused status text.now) (said_in result) }
 {
     match texts::err_line(alloc, text) {
         Ok(err) => Reply {
-            status,
+            status: status.code(),
             out: Vec::new(alloc),
             err,
         },
@@ -95,8 +90,8 @@ pub(crate) fn refuse_with(alloc: Global, status: u8, text: &str) -> Reply
 }
 
 /// The same, where there is memory for the text.
-fn refuse_by(alloc: Global, status: u8, text: Result<String, AllocError>) -> Reply
-    requires { IsInnerStatus status }
+fn refuse_by(alloc: Global, status: Status, text: Result<String, AllocError>) -> Reply
+    requires { IsInnerStatus (code status) }
     ensures { (wanted : Text) → IfOk text (λ t. string_bytes t ≡ wanted) → Says (refused status wanted) (said_in result) }
 {
     match text {
@@ -107,60 +102,63 @@ fn refuse_by(alloc: Global, status: u8, text: Result<String, AllocError>) -> Rep
 
 /// The answer to words of which this one is bad.
 pub(crate) fn refuse_words(alloc: Global, at: usize) -> Reply
-    ensures { Says (refused 2 (bad_words at)) (said_in result) }
+    ensures { Says (refused status.BadWords (bad_words at)) (said_in result) }
 {
-    refuse_by(alloc, 2, texts::bad_words(alloc, at))
-}
-
-/// The answer to a word that is no name or no folder from this byte on.
-pub(crate) fn refuse_name(alloc: Global, at: usize, word: &str) -> Reply
-    ensures { Says (refused 2 (bad_name at word.now)) (said_in result) }
-{
-    refuse_by(alloc, 2, texts::bad_name(alloc, at, word))
+    refuse_by(alloc, Status::BadWords, texts::bad_words(alloc, at))
 }
 
 /// The answer where a file does not read from this line on.
 pub(crate) fn refuse_line(alloc: Global, path: &str, line: usize) -> Reply
-    ensures { Says (refused 6 (bad_line path.now line)) (said_in result) }
+    ensures { Says (refused status.BadFile (bad_line path.now line)) (said_in result) }
 {
-    refuse_by(alloc, 6, texts::bad_line(alloc, path, line))
+    refuse_by(alloc, Status::BadFile, texts::bad_line(alloc, path, line))
 }
 
 /// The answer where a limit is passed.
 pub(crate) fn refuse_limit(alloc: Global, limit: Limit) -> Reply
-    ensures { Says (refused 10 (limit_passed limit)) (said_in result) }
+    ensures { Says (refused status.LimitPassed (limit_passed limit)) (said_in result) }
 {
-    refuse_with(alloc, 10, texts::limit_passed(limit))
-}
-
-/// The answer where a folder is not there.
-pub(crate) fn refuse_missing(alloc: Global, folder: &str) -> Reply
-    ensures { Says (refused 3 (not_in_the_store folder.now)) (said_in result) }
-{
-    refuse_by(alloc, 3, texts::not_in_the_store(alloc, folder))
+    refuse_with(alloc, Status::LimitPassed, texts::limit_passed(limit))
 }
 
 /// The answer of a command that is refused by what is within, which was asked for this.
-fn refuse_within(alloc: Global, refusal: &Refusal, asked: &str) -> Reply
-    requires { IsInnerStatus (status_of refusal.now) }
+fn refuse(alloc: Global, asked: &str, refusal: &Refusal) -> Reply
+    requires { IsInnerStatus (code (status_of refusal.now)) }
     ensures { Says (refusal_said asked.now refusal.now) (said_in result) }
 {
     let status = status_of(refusal);
-    if status == 14 {
+    if status == Status::NoMemory {
         return no_memory(alloc);
     }
     refuse_by(alloc, status, texts::text_of(alloc, refusal, asked))
 }
 
-/// The answer of a command that is refused. A fault of the outside is told by the line that is there
-/// for it.
-pub(crate) fn refuse(alloc: Global, lines: SecretLines, refusal: &Refusal) -> Reply
-    requires { IsAbout lines.name refusal.now }
-    ensures { Says (refusal_said lines.name refusal.now) (said_in result) }
+/// The answer that tells what a command comes to, which was asked for this. It met no fault of the
+/// outside.
+pub(crate) fn tell_within(alloc: Global, asked: &str, outcome: Outcome) -> Reply
+    requires { IsInner (meant outcome) }
+    ensures { Says (said_of asked.now (meant outcome)) (said_in result) }
 {
-    match refusal {
-        Refusal::Tool(_) => tell_fault(alloc, 11, lines.tool),
-        Refusal::Disk => tell_disk(alloc, lines.disk),
-        _ => refuse_within(alloc, refusal, lines.name.text()),
+    match outcome {
+        Outcome::Done(bytes) => grant(alloc, bytes),
+        Outcome::NoHit => silent(alloc, Status::NoHit),
+        Outcome::Misnamed(word, at) => {
+            let text = texts::bad_name(alloc, at, word.text());
+            refuse_by(alloc, Status::BadWords, text)
+        }
+        Outcome::Refused(refusal) => refuse(alloc, asked, &refusal),
+    }
+}
+
+/// The answer that tells what a command comes to. A fault of the outside is told by the line that is
+/// there for it.
+pub(crate) fn tell(alloc: Global, lines: TurnLines, outcome: Outcome) -> Reply
+    requires { IsOutcomeAbout (subject lines.asked) (meant outcome) }
+    ensures { Says (said_of (subject lines.asked) (meant outcome)) (said_in result) }
+{
+    match outcome {
+        Outcome::Refused(Refusal::Tool(_)) => tell_fault(alloc, Status::ToolFailed, lines.tool),
+        Outcome::Refused(Refusal::Disk) => tell_disk(alloc, lines.disk),
+        _ => tell_within(alloc, lines.asked.subject(), outcome),
     }
 }

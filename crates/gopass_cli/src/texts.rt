@@ -1,8 +1,8 @@
 //! The texts of refusals.
 
 ghost use Rattle.std.specs.Prelude.{◌≡◌, ◌++◌, IfOk, string_bytes};
-ghost use Rattle.store_core.specs.Texts.{bad_words, bad_name, bad_line, err_line, limit_passed, not_in_the_store, tool_failed};
-ghost use Rattle.store_core.specs.Refusals.{refusal_text};
+ghost use Rattle.gopass_cli.specs.Texts.{bad_words, bad_name, bad_line, err_line, limit_passed, not_in_the_store, tool_failed};
+ghost use Rattle.gopass_cli.specs.Said.{refusal_text};
 
 use gopass_base::{NoMemory, push_line};
 use std::alloc::{AllocError, Global};

@@ -1,25 +1,27 @@
 //! One command on a store that is open.
 
-ghost use Rattle.std.specs.Prelude.{◌≡◌, ◌≤◌, IsFalse, false, is_some, vec_len};
+ghost use Rattle.std.specs.Prelude.{◌≡◌, ◌≤◌, IsFalse, false, true, is_some, vec_len};
 ghost use Rattle.disk_model.specs.Disk.{Rests};
 ghost use Rattle.cipher_port.specs.Tool.{Ring};
-ghost use Rattle.mount_table.specs.FaultOf.{name_fault};
 ghost use Rattle.store_core.specs.Moment.{HaveRing, all_tools};
 ghost use Rattle.store_core.specs.Does.{Does, Keeps};
 ghost use Rattle.store_core.specs.Insert.{plan_insert};
 ghost use Rattle.store_core.specs.Show.{plan_show};
-ghost use Rattle.gopass_cli.specs.Words.{unless_bad};
-ghost use Rattle.gopass_cli.specs.Plan.{body_in, most_calls, plan_of};
-ghost use Rattle.gopass_cli.specs.Replies.{said_in};
+ghost use Rattle.gopass_cli.specs.Asked.{changes_nothing, subject, subject_of};
+ghost use Rattle.gopass_cli.specs.Outcomes.{IsOutcomeAbout, meant};
+ghost use Rattle.gopass_cli.specs.Plan.{body_in, calls_asked, most_calls, plan_asked, plan_of};
+ghost use Rattle.gopass_cli.specs.Replies.{Answers};
 ghost use Rattle.request_body.specs.Given.{bytes_of, takes_body};
 
-use crate::lines::SecretLines;
+use crate::asked::Asked;
+use crate::lines::TurnLines;
 use crate::listing::{find, ls, mounts, recipients};
-use crate::reply::{Reply, grant, no_memory, refuse, refuse_name};
+use crate::outcome::{Outcome, done, given};
+use crate::reply::{Reply, tell, tell_within};
 use cipher_port::Cipher;
 use command_words::Command;
 use disk_model::Disk;
-use mount_table::NameFault;
+use mount_table::Name;
 use std::alloc::Global;
 use store_core::Store;
 
@@ -30,95 +32,67 @@ pub struct Request {
     pub body: Option<Vec<u8>>,
 }
 
-/// The answer of `show` for a name.
-fn show_name<D: Disk, C: Cipher>(
-    alloc: Global,
-    store: &mut Store<D>,
-    lines: SecretLines,
-    tools: &mut Vec<C>,
-) -> Reply
-    requires some { 1 ≤ vec_len tools.old }
-    requires free { IsFalse store.old.vault.stuck }
-    ensures planned { Does (λ ring. plan_show ring lines.name) store.old store.new
-        (all_tools C.meaning tools.old.items) (all_tools C.meaning tools.new.items) (said_in result) }
-    ensures keeps { Keeps 1 store.old store.new
-        (all_tools C.meaning tools.old.items) (all_tools C.meaning tools.new.items) result.status }
-    ensures rests { D.meaning.tells → Rests (D.meaning.view store.old.vault.disk) (D.meaning.view store.new.vault.disk) }
-    ensures count { vec_len tools.new ≡ vec_len tools.old }
-{
-    match store.show(&lines.name, &mut tools[0]) {
-        Ok(body) => grant(alloc, body),
-        Err(refusal) => refuse(alloc, lines, &refusal),
-    }
-}
-
 /// `show NAME`: the body of a secret.
-fn show<D: Disk, C: Cipher>(
-    alloc: Global,
-    store: &mut Store<D>,
-    word: &str,
-    tools: &mut Vec<C>,
-) -> Reply
+fn show<D: Disk, C: Cipher>(store: &mut Store<D>, name: &Name, tools: &mut Vec<C>) -> Outcome
     requires some { 1 ≤ vec_len tools.old }
     requires free { IsFalse store.old.vault.stuck }
-    ensures planned { Does (λ ring state events. unless_bad (name_fault word.now) word.now (plan_show ring word.now state events)) store.old store.new
-        (all_tools C.meaning tools.old.items) (all_tools C.meaning tools.new.items) (said_in result) }
+    ensures planned { Does (λ ring. plan_show ring name.now) store.old store.new
+        (all_tools C.meaning tools.old.items) (all_tools C.meaning tools.new.items) (meant result) }
     ensures keeps { Keeps 1 store.old store.new
-        (all_tools C.meaning tools.old.items) (all_tools C.meaning tools.new.items) result.status }
+        (all_tools C.meaning tools.old.items) (all_tools C.meaning tools.new.items) (meant result) }
+    ensures about { IsOutcomeAbout name.now (meant result) }
     ensures rests { D.meaning.tells → Rests (D.meaning.view store.old.vault.disk) (D.meaning.view store.new.vault.disk) }
     ensures count { vec_len tools.new ≡ vec_len tools.old }
 {
-    match SecretLines::read(alloc, word) {
-        Ok(lines) => show_name(alloc, store, lines, tools),
-        Err(NameFault::Bad(bad)) => refuse_name(alloc, bad.at, word),
-        Err(NameFault::NoMemory) => no_memory(alloc),
-    }
-}
-
-/// The answer of `insert` for a name.
-fn insert_name<D: Disk, C: Cipher>(
-    alloc: Global,
-    store: &mut Store<D>,
-    lines: SecretLines,
-    body: &[u8],
-    force: bool,
-    tools: &mut Vec<C>,
-) -> Reply
-    requires some { 1 ≤ vec_len tools.old }
-    requires free { IsFalse store.old.vault.stuck }
-    ensures planned { Does (λ ring. plan_insert ring lines.name body.now force) store.old store.new
-        (all_tools C.meaning tools.old.items) (all_tools C.meaning tools.new.items) (said_in result) }
-    ensures keeps { Keeps 1 store.old store.new
-        (all_tools C.meaning tools.old.items) (all_tools C.meaning tools.new.items) result.status }
-    ensures count { vec_len tools.new ≡ vec_len tools.old }
-{
-    match store.insert(&lines.name, body, force, &mut tools[0]) {
-        Ok(()) => grant(alloc, Vec::new(alloc)),
-        Err(refusal) => refuse(alloc, lines, &refusal),
-    }
+    given(store.show(name, &mut tools[0]))
 }
 
 /// `insert NAME`: a secret with this body.
 fn insert<D: Disk, C: Cipher>(
     alloc: Global,
     store: &mut Store<D>,
-    word: &str,
+    name: &Name,
     body: &[u8],
     force: bool,
     tools: &mut Vec<C>,
-) -> Reply
+) -> Outcome
     requires some { 1 ≤ vec_len tools.old }
     requires free { IsFalse store.old.vault.stuck }
-    ensures planned { Does (λ ring state events. unless_bad (name_fault word.now) word.now (plan_insert ring word.now body.now force state events)) store.old store.new
-        (all_tools C.meaning tools.old.items) (all_tools C.meaning tools.new.items) (said_in result) }
+    ensures planned { Does (λ ring. plan_insert ring name.now body.now force) store.old store.new
+        (all_tools C.meaning tools.old.items) (all_tools C.meaning tools.new.items) (meant result) }
     ensures keeps { Keeps 1 store.old store.new
-        (all_tools C.meaning tools.old.items) (all_tools C.meaning tools.new.items) result.status }
+        (all_tools C.meaning tools.old.items) (all_tools C.meaning tools.new.items) (meant result) }
+    ensures about { IsOutcomeAbout name.now (meant result) }
     ensures count { vec_len tools.new ≡ vec_len tools.old }
 {
-    match SecretLines::read(alloc, word) {
-        Ok(lines) => insert_name(alloc, store, lines, body, force, tools),
-        Err(NameFault::Bad(bad)) => refuse_name(alloc, bad.at, word),
-        Err(NameFault::NoMemory) => no_memory(alloc),
+    done(alloc, store.insert(name, body, force, &mut tools[0]))
+}
+
+/// Does what is asked, with this body, and answers what it comes to.
+fn perform<D: Disk, C: Cipher>(
+    alloc: Global,
+    store: &mut Store<D>,
+    asked: &Asked,
+    body: &[u8],
+    tools: &mut Vec<C>,
+) -> Outcome
+    requires some { 1 ≤ vec_len tools.old }
+    requires free { IsFalse store.old.vault.stuck }
+    ensures planned { Does (λ ring. plan_asked ring asked.now body.now) store.old store.new
+        (all_tools C.meaning tools.old.items) (all_tools C.meaning tools.new.items) (meant result) }
+    ensures keeps { Keeps (calls_asked asked.now) store.old store.new
+        (all_tools C.meaning tools.old.items) (all_tools C.meaning tools.new.items) (meant result) }
+    ensures about { IsOutcomeAbout (subject asked.now) (meant result) }
+    ensures rests { changes_nothing asked.now ≡ true → D.meaning.tells → Rests (D.meaning.view store.old.vault.disk) (D.meaning.view store.new.vault.disk) }
+    ensures count { vec_len tools.new ≡ vec_len tools.old }
+{
+    match asked {
+        Asked::Show(name) => show(store, name, tools),
+        Asked::Insert(name, force) => insert(alloc, store, name, body, *force, tools),
+        Asked::Ls(folder, flat) => ls(alloc, store, folder, *flat),
+        Asked::Find(text) => find(alloc, store, text.text()),
+        Asked::Mounts => mounts(alloc, store),
+        Asked::Recipients => recipients(alloc, store),
     }
 }
 
@@ -149,25 +123,20 @@ pub fn turn<D: Disk + Send, C: Cipher + Send>(
     requires free { IsFalse store.old.vault.stuck }
     requires body { is_some request.now.body ≡ takes_body request.now.command }
 
-    // Where disk and tools tell, the command performs what is planned of it.
-    ensures planned { Does (λ ring. plan_of ring request.now.command (bytes_of request.now.body)) store.old store.new
-        (all_tools C.meaning tools.old.items) (all_tools C.meaning tools.new.items) (said_in result) }
+    // The reply says what the command came to: where disk and tools tell, what is planned of it; told
+    // or not, by causes, calls of tools, root and rings.
+    ensures answers { Answers (λ ring. plan_of ring request.now.command (bytes_of request.now.body)) (most_calls request.now.command) (subject_of request.now.command)
+        store.old store.new (all_tools C.meaning tools.old.items) (all_tools C.meaning tools.new.items) result }
 
-    // Told or not: causes, calls of tools, root and rings. A command without a body changes nothing of
-    // the disk.
-    ensures keeps { Keeps (most_calls request.now.command) store.old store.new
-        (all_tools C.meaning tools.old.items) (all_tools C.meaning tools.new.items) result.status }
+    // A command without a body changes nothing of the disk.
     ensures rests { takes_body request.now.command ≡ false → D.meaning.tells → Rests (D.meaning.view store.old.vault.disk) (D.meaning.view store.new.vault.disk) }
     ensures count { vec_len tools.new ≡ vec_len tools.old }
 {
-    match &request.command {
-        Command::Show { name } => show(alloc, store, name, tools),
-        Command::Insert { name, force, .. } => {
-            insert(alloc, store, name, body_of(&request.body), *force, tools)
+    match TurnLines::read(alloc, &request.command) {
+        Ok(lines) => {
+            let outcome = perform(alloc, store, &lines.asked, body_of(&request.body), tools);
+            tell(alloc, lines, outcome)
         }
-        Command::Ls { folder, flat } => ls(alloc, store, folder, *flat),
-        Command::Find { text } => find(alloc, store, text),
-        Command::Mounts => mounts(alloc, store),
-        Command::Recipients => recipients(alloc, store),
+        Err(outcome) => tell_within(alloc, "", outcome),
     }
 }

@@ -4,8 +4,9 @@ use Rattle.command_words.specs.declared.reading.WordsFault.{WordsFault}
 use Rattle.command_words.specs.Said.{Asked, asked_by}
 use Rattle.command_words.specs.Words.{words_in}
 use Rattle.command_words.specs.Reads.{ReadsWords}
-use Rattle.store_core.specs.Said.{refused}
-use Rattle.store_core.specs.Texts.{bad_words}
+use Rattle.gopass_cli.specs.declared.status.Status.TheVariants.{BadWords}
+use Rattle.gopass_cli.specs.Said.{refused}
+use Rattle.gopass_cli.specs.Texts.{bad_words}
 use Rattle.request_body.specs.Bodies.{input_of}
 use Rattle.gopass_cli.specs.Opening.{SaysOfCommand}
 use Rattle.gopass_cli.specs.Replies.{said_in}
@@ -36,7 +37,7 @@ returns-in-Err-Bad-clause-answers g c told tells ring have =
     let now = faults_of g.D.Disk.meaning c.args.disk g.C.Cipher.meaning c.args.tools.now.items in
     let bad = subst (λ (fault : WordsFault). ReadsWords (Err fault) (words_in (map string_bytes c.args.words.now))) c.in-Err-Bad.field-0-is c.in-Err-Bad.ensures in
     subst (λ (asked : Result Asked ℕ). SaidInRun (SaysOfWords asked opens root files input ring) now now (said_in c.refuse_words.result)) (sym bad)
-    (runs_meant (SaysOfWords (Err c.in-Err-Bad.at) opens root files input ring) now now (omega arith) (refused 2 (bad_words c.in-Err-Bad.at)) (said_in c.refuse_words.result) (refl, record { left = refl; taken = refl; ends = refl; faults = refl }) c.refuse_words.ensures)
+    (runs_meant (SaysOfWords (Err c.in-Err-Bad.at) opens root files input ring) now now (omega arith) (refused BadWords (bad_words c.in-Err-Bad.at)) (said_in c.refuse_words.result) (refl, record { left = refl; taken = refl; ends = refl; faults = refl }) c.refuse_words.ensures)
 
 pub returns-in-Err-NoMemory-clause-answers : goal.returns-in-Err-NoMemory-clause-answers
 returns-in-Err-NoMemory-clause-answers g c told tells ring have =
@@ -49,7 +50,7 @@ returns-in-Ok-new-clause-safe g c told tells ring have before stand =
 
 pub returns-in-Err-Bad-clause-safe : goal.returns-in-Err-Bad-clause-safe
 returns-in-Err-Bad-clause-safe g c told tells ring have before stand = inl (record {
-  tells = tells_words (said_in c.refuse_words.result) (refused 2 (bad_words c.in-Err-Bad.at)) refl c.refuse_words.ensures;
+  tells = tells_words (said_in c.refuse_words.result) (refused BadWords (bad_words c.in-Err-Bad.at)) refl c.refuse_words.ensures;
   any_moment = same_safe g.C.Cipher.meaning.opens c.args.root.now before (g.D.Disk.meaning.view c.args.disk) stand;
   kept = same_kept g.C.Cipher.meaning.opens c.args.root.now (g.D.Disk.meaning.view c.args.disk);
 })

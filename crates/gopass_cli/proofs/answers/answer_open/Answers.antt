@@ -1,6 +1,7 @@
 use Rattle.std.proofs.Common.{◌≡◌, inl, inr, ap, sym, ◌∙◌, subst, arith}
 use Rattle.store_core.specs.Events.{Events}
-use Rattle.store_core.specs.Said.{Said}
+use Rattle.gopass_cli.specs.Asked.{subject_of}
+use Rattle.gopass_cli.specs.Said.{Said, said_of}
 use Rattle.request_body.specs.Bodies.{input_of}
 use Rattle.gopass_cli.specs.Plan.{plan_of}
 use Rattle.gopass_cli.specs.Replies.{said_in}
@@ -18,7 +19,7 @@ returns-in-Ok-clause-answers g c state stands told tells ring have =
     let body = bytes_of c.in-Ok.body in
     let old = faults_of g.D.Disk.meaning c.args.store.vault.disk g.C.Cipher.meaning c.args.tools.now.items in
     let new = faults_of g.D.Disk.meaning c.answer_turn.result.disk g.C.Cipher.meaning c.answer_turn.new.tools.items in
-    runs_weaker (λ (events : Events) (said : Said). said ≡ (plan_of ring c.args.command body state events).said) (SaysOfRequest c.args.command input ring state) old new (said_in c.answer_turn.result.reply)
+    runs_weaker (λ (events : Events) (said : Said). said ≡ said_of (subject_of c.args.command) (plan_of ring c.args.command body state events).outcome) (SaysOfRequest c.args.command input ring state) old new (said_in c.answer_turn.result.reply)
     (λ events h. inr (body, c.in-Ok.ensures.given, h)) (c.answer_turn.ensures.answers state stands told tells ring have)
 
 pub returns-in-Ok-clause-safe : goal.returns-in-Ok-clause-safe

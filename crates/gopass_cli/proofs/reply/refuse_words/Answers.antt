@@ -1,4 +1,4 @@
-use Rattle.store_core.specs.Texts.{bad_words}
+use Rattle.gopass_cli.specs.Texts.{bad_words}
 use Rattle.gopass_cli.proofs.reply.refuse_words.Goals as goal
 
 pub returns : goal.returns

@@ -1,47 +1,27 @@
-use Rattle.std.proofs.Common.{◌≡◌, refl, ap, sym, subst}
-use Rattle.std.specs.Prelude.{Err}
-use Rattle.gopass_base.specs.Text.{Text}
-use Rattle.mount_table.specs.FaultOf.{name_fault}
-use Rattle.mount_table.proofs.FaultOfLemmas.{name_none, name_some}
-use Rattle.store_core.specs.Events.{Events, calm}
-use Rattle.store_core.specs.Moment.{moment_of, all_tools}
-use Rattle.store_core.specs.Performs.{Performs}
-use Rattle.store_core.specs.Said.{Said, Plan, refused}
+use Rattle.std.proofs.Common.{set, sym, subst, arith}
+use Rattle.store_core.specs.Moment.{all_tools}
+use Rattle.store_core.specs.Does.{Does, Keeps}
+use Rattle.store_core.specs.Plans.{Outcome, outcome_by}
 use Rattle.store_core.specs.Show.{plan_show}
-use Rattle.store_core.specs.Texts.{bad_name}
-use Rattle.gopass_cli.specs.Words.{unless_bad}
-use Rattle.gopass_cli.specs.Replies.{said_in}
-use Rattle.gopass_cli.proofs.TurnLemmas.{bad_word, only_answers, wants_first}
+use Rattle.gopass_cli.specs.Outcomes.{IsOutcomeAbout}
+use Rattle.gopass_cli.proofs.TurnLemmas.{about_by, lifts_does, lifts_keeps}
 use Rattle.gopass_cli.proofs.turns.show.Goals as goal
 
-pub returns-in-Ok-clause-planned : goal.returns-in-Ok-clause-planned
-returns-in-Ok-clause-planned g c told tells ring have start s =
+pub returns-clause-planned : goal.returns-clause-planned
+returns-clause-planned g c =
     let store = c.args.store.now in
-    let word = c.args.word.now in
-    let opens = g.C.Cipher.meaning.opens in
-    let old = moment_of store (all_tools g.C.Cipher.meaning c.args.tools.now.items) in
-    let new = moment_of c.show_name.new.store (all_tools g.C.Cipher.meaning c.show_name.new.tools.items) in
-    let said = said_in c.show_name.result in
-    let none = name_none word (c.in-Ok.ensures.good refl) in
-    let here = subst (λ (t : Text). Performs opens store.vault.root (plan_show ring t start) start old new said) c.in-Ok.ensures.name (c.show_name.ensures.planned told tells ring have start s) in
-    let plans : ◌≡◌ {A = Events → Plan} (λ events. unless_bad (name_fault word) word (plan_show ring word start events)) (plan_show ring word start) = λ i events. unless_bad (none i) word (plan_show ring word start events) in
-    subst (λ (plan : Events → Plan). Performs opens store.vault.root plan start old new said) (sym plans) here
+    let tools = c.args.tools.now.items in
+    let outcome = outcome_by (λ body. body.items) c.show.result in
+    subst (λ (o : Outcome). Does {G = g.D.Disk} (λ ring. plan_show ring c.args.name.now) store c.show.new.self (all_tools g.C.Cipher.meaning tools) (all_tools g.C.Cipher.meaning (set tools 0 c.show.new.tool)) o) (sym c.given.ensures)
+    (lifts_does g.C.Cipher.meaning store c.show.new.self tools c.index_mut.result.now c.show.new.tool (omega (arith, c.requires.some)) c.index_mut.ensures.value (λ ring. plan_show ring c.args.name.now) outcome c.show.ensures.planned)
 
-pub returns-in-Err-Bad-clause-planned : goal.returns-in-Err-Bad-clause-planned
-returns-in-Err-Bad-clause-planned g c told tells ring have start s =
+pub returns-clause-keeps : goal.returns-clause-keeps
+returns-clause-keeps g c =
     let store = c.args.store.now in
-    let word = c.args.word.now in
-    let now = moment_of store (all_tools g.C.Cipher.meaning c.args.tools.now.items) in
-    let bad = c.in-Err-Bad.bad in
-    let fault = name_some word bad (c.in-Err-Bad.ensures.fault bad (ap Err c.in-Err-Bad.field-0-is)) in
-    only_answers g.C.Cipher.meaning.opens store.vault.root (λ events. unless_bad (name_fault word) word (plan_show ring word start events)) start now s (store.vault.at_rest c.requires.free told)
-    (refused 2 (bad_name bad.at word)) (said_in c.refuse_name.result) (bad_word (name_fault word) word (plan_show ring word start calm) bad fault) c.refuse_name.ensures
+    let tools = c.args.tools.now.items in
+    let outcome = outcome_by (λ body. body.items) c.show.result in
+    subst (λ (o : Outcome). Keeps {G = g.D.Disk} 1 store c.show.new.self (all_tools g.C.Cipher.meaning tools) (all_tools g.C.Cipher.meaning (set tools 0 c.show.new.tool)) o) (sym c.given.ensures)
+    (lifts_keeps g.C.Cipher.meaning store c.show.new.self tools c.index_mut.result.now c.show.new.tool (omega (arith, c.requires.some)) c.index_mut.ensures.value 1 outcome c.show.ensures.keeps)
 
-pub returns-in-Err-NoMemory-clause-planned : goal.returns-in-Err-NoMemory-clause-planned
-returns-in-Err-NoMemory-clause-planned g c told tells ring have start s =
-    let store = c.args.store.now in
-    let word = c.args.word.now in
-    let opens = g.C.Cipher.meaning.opens in
-    let now = moment_of store (all_tools g.C.Cipher.meaning c.args.tools.now.items) in
-    subst (λ (said : Said). Performs opens store.vault.root (λ events. unless_bad (name_fault word) word (plan_show ring word start events)) start now now said) (sym c.no_memory.ensures)
-    (wants_first opens store.vault.root (λ events. unless_bad (name_fault word) word (plan_show ring word start events)) start now s (store.vault.at_rest c.requires.free told))
+pub returns-clause-about : goal.returns-clause-about
+returns-clause-about g c = subst (IsOutcomeAbout c.args.name.now) (sym c.given.ensures) (about_by c.args.name.now (λ body. body.items) c.show.result c.show.ensures.about)

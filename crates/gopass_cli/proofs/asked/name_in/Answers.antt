@@ -1,0 +1,14 @@
+use Rattle.std.proofs.Common.{refl, ap}
+use Rattle.std.specs.Prelude.{Err}
+use Rattle.mount_table.specs.FaultOf.{name_fault}
+use Rattle.mount_table.proofs.FaultOfLemmas.{name_none, name_some}
+use Rattle.gopass_cli.specs.Outcomes.{meant}
+use Rattle.gopass_cli.proofs.AskedLemmas.{misread}
+use Rattle.gopass_cli.proofs.asked.name_in.Goals as goal
+
+pub returns-in-Ok-clause-good : goal.returns-in-Ok-clause-good
+returns-in-Ok-clause-good c = (c.in-Ok.ensures.name, name_none c.args.word.now (c.in-Ok.ensures.good refl))
+
+pub returns-in-Err-clause-bad : goal.returns-in-Err-clause-bad
+returns-in-Err-clause-bad c = misread (name_fault c.args.word.now) c.args.word.now c.in-Err.fault (meant c.misnamed.result)
+    (λ bad is. name_some c.args.word.now bad (c.in-Err.ensures.fault bad (ap Err is))) c.misnamed.ensures.bad c.misnamed.ensures.full
