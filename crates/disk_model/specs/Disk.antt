@@ -1,5 +1,5 @@
 -- What a disk means at a moment, and from one moment to the next.
-use Rattle.std.specs.Prelude.{◌≡◌, ◌⊎◌, ℕ, ◌≤◌, Bool}
+use Rattle.std.specs.Prelude.{◌≡◌, ◌⊎◌, ℕ, ◌≤◌, ◌+◌, ◌-◌, ◌^◌, min, Bool}
 use Rattle.disk_model.specs.Files.{Files}
 
 -- what a disk shows at a moment: its files, and the images, which are what a crash now may leave.
@@ -10,13 +10,14 @@ pub record View : Type 1 where
   pub moment : ℕ
   pub left_since : ℕ → Files → Type 0
 
--- a disk: whether it tells its content, what it shows, how often a call failed and how often it was asked, and whether
--- the lock is had. Both counts stand at their last value
+-- a disk: whether it tells its content, what it shows, how often a call failed and how often it was asked, for how much its
+-- readings and listings asked, which is the sum of their limits, and whether the lock is had. Counts stand at their last value
 pub record DiskMeaning (D : Type 0) : Type 1 where
   pub tells : Type 0
   pub view : D → View
   pub faults : D → ℕ
   pub calls : D → ℕ
+  pub asked : D → ℕ
   pub held : D → Bool
 
 -- what holds at every moment: the files are one of the images, each image is among what a crash since any moment up to
@@ -55,6 +56,14 @@ pub record Syncs (old new : View) : Type 0 where
   pub time : Elapses old new
   pub files : new.files ≡ old.files
   pub only : (m : Files) → new.images m → old.images m
+
+-- the sum with one limit more
+abbrev pub with_limit : ℕ → ℕ → ℕ
+with_limit limit asked = min (asked + limit) (2 ^ 128 - 1)
+
+-- what was asked in calls, by the sums before and now: their limits come to no more than `most`
+abbrev pub AsksUpTo : (most before now : ℕ) → Type 0
+AsksUpTo most before now = now ≤ before + most
 
 -- these files are the only image
 abbrev pub Only : Files → View → Type 0

@@ -4,22 +4,24 @@ use Rattle.std.proofs.Common.{refl, subst, arith}
 use Rattle.std.proofs.Math.Dec.{ltb}
 use Rattle.gopass_base.specs.Text.{Text}
 use Rattle.gopass_base.specs.Calls.{Calls, next_calls}
-use Rattle.disk_model.specs.Disk.{View, IsSound}
+use Rattle.disk_model.specs.Disk.{View, IsSound, with_limit}
 use Rattle.disk_model.specs.Entries.{Entries, entries_of, files_of, is_rising}
 use Rattle.disk_model.specs.declared.act.Act.{Act as Held}
 use Rattle.disk_model.specs.Acts.{Act, Log, log_of, before, entries_made, files_after, entries_after, Images, now_image}
 
--- the files that it began with, its files, what it did, its calls, and whether the lock is had
+-- the files that it began with, its files, what it did, its calls, the sum of the limits that were named, and whether the
+-- lock is had
 pub record MemoryDisk : Type 0 where
   pub start : Entries
   pub entries : Entries
   pub log : Log
   pub calls : Calls
+  pub asked : ℕ
   pub held : Bool
 
 -- what code holds
-abbrev pub memory_of : {A : Type 0} → List (Text × Vec ℕ A) → List (Text × Vec ℕ A) → List (ℕ × Held) → Calls → Bool → MemoryDisk
-memory_of start files log calls held = record { start = entries_of start; entries = entries_of files; log = log_of log; calls = calls; held = held }
+abbrev pub memory_of : {A : Type 0} → List (Text × Vec ℕ A) → List (Text × Vec ℕ A) → List (ℕ × Held) → Calls → ℕ → Bool → MemoryDisk
+memory_of start files log calls asked held = record { start = entries_of start; entries = entries_of files; log = log_of log; calls = calls; asked = asked; held = held }
 
 -- all that it did so far
 abbrev pub acts_of : MemoryDisk → List Act
@@ -37,6 +39,10 @@ view_of disk = record {
 -- after a call that changed nothing
 abbrev pub rested : MemoryDisk → MemoryDisk
 rested disk = record disk { calls = next_calls disk.calls }
+
+-- after a call that named a limit and changed nothing
+abbrev pub asked_up_to : ℕ → MemoryDisk → MemoryDisk
+asked_up_to limit disk = record (rested disk) { asked = with_limit limit disk.asked }
 
 -- after a call that gave the lock
 abbrev pub taken : MemoryDisk → MemoryDisk

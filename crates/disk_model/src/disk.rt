@@ -3,7 +3,7 @@
 ghost use Rattle.std.specs.Prelude.{◌≡◌, ◌≤◌, IfOk, OnOk, OnErr, IsTrue, Err, None, Some};
 ghost use Rattle.gopass_base.specs.Faults.{HasCause, counted};
 ghost use Rattle.disk_model.specs.Files.{put, moved, Writes, Moves, Drops};
-ghost use Rattle.disk_model.specs.Disk.{DiskMeaning, IsSound, Rests, Steps, IsMade, Syncs, Only, Stay};
+ghost use Rattle.disk_model.specs.Disk.{DiskMeaning, with_limit, IsSound, Rests, Steps, IsMade, Syncs, Only, Stay};
 ghost use Rattle.disk_model.specs.Answers.{Reads, IsWithin};
 ghost use Rattle.disk_model.specs.Listing.{Lists, IsShort};
 ghost use Rattle.disk_model.specs.declared.disk.DiskFault.TheVariants.{Failed as failed, NoMemory as no_memory};
@@ -68,6 +68,7 @@ pub trait Disk {
         ensures kept { IsTrue (meaning.held self.old) → IsTrue (meaning.held self.new) }
         ensures counted { meaning.calls self.new ≡ counted (meaning.calls self.old) }
         ensures later { meaning.calls self.old ≤ meaning.calls self.new }
+        ensures asked { meaning.asked self.new ≡ meaning.asked self.old }
         ensures cause { HasCause (meaning.faults self.old) (meaning.faults self.new) (result ≡ Err DiskFault.Failed) };
 
     /// The paths of all files below the directory, but those with a part `.git` behind the
@@ -79,6 +80,7 @@ pub trait Disk {
         ensures held { meaning.held self.new ≡ meaning.held self.old }
         ensures counted { meaning.calls self.new ≡ counted (meaning.calls self.old) }
         ensures later { meaning.calls self.old ≤ meaning.calls self.new }
+        ensures asked { meaning.asked self.new ≡ with_limit max (meaning.asked self.old) }
         ensures cause { HasCause (meaning.faults self.old) (meaning.faults self.new) (result ≡ Err DiskFault.Failed) };
 
     /// The file under the path, where it has at most `max` bytes. It changes nothing.
@@ -89,6 +91,7 @@ pub trait Disk {
         ensures held { meaning.held self.new ≡ meaning.held self.old }
         ensures counted { meaning.calls self.new ≡ counted (meaning.calls self.old) }
         ensures later { meaning.calls self.old ≤ meaning.calls self.new }
+        ensures asked { meaning.asked self.new ≡ with_limit max (meaning.asked self.old) }
         ensures cause { HasCause (meaning.faults self.old) (meaning.faults self.new) (result ≡ Err DiskFault.Failed) };
 
     /// Puts the bytes under the path, over a file that is there. A crash before the next sync may leave
@@ -99,6 +102,7 @@ pub trait Disk {
         ensures held { meaning.held self.new ≡ meaning.held self.old }
         ensures counted { meaning.calls self.new ≡ counted (meaning.calls self.old) }
         ensures later { meaning.calls self.old ≤ meaning.calls self.new }
+        ensures asked { meaning.asked self.new ≡ meaning.asked self.old }
         ensures cause { HasCause (meaning.faults self.old) (meaning.faults self.new) (result ≡ Err DiskFault.Failed) };
 
     /// Moves the file under `from` to `to`, whatever stood there. Where there is none nothing moves.
@@ -108,6 +112,7 @@ pub trait Disk {
         ensures held { meaning.held self.new ≡ meaning.held self.old }
         ensures counted { meaning.calls self.new ≡ counted (meaning.calls self.old) }
         ensures later { meaning.calls self.old ≤ meaning.calls self.new }
+        ensures asked { meaning.asked self.new ≡ meaning.asked self.old }
         ensures cause { HasCause (meaning.faults self.old) (meaning.faults self.new) (result ≡ Err DiskFault.Failed) };
 
     /// Takes the file away. That there is none is no fault.
@@ -117,6 +122,7 @@ pub trait Disk {
         ensures held { meaning.held self.new ≡ meaning.held self.old }
         ensures counted { meaning.calls self.new ≡ counted (meaning.calls self.old) }
         ensures later { meaning.calls self.old ≤ meaning.calls self.new }
+        ensures asked { meaning.asked self.new ≡ meaning.asked self.old }
         ensures cause { HasCause (meaning.faults self.old) (meaning.faults self.new) (result ≡ Err DiskFault.Failed) };
 
     /// Makes all steps so far outlast a crash: from then on the files are the only image. Where it
@@ -128,6 +134,7 @@ pub trait Disk {
         ensures held { meaning.held self.new ≡ meaning.held self.old }
         ensures counted { meaning.calls self.new ≡ counted (meaning.calls self.old) }
         ensures later { meaning.calls self.old ≤ meaning.calls self.new }
+        ensures asked { meaning.asked self.new ≡ meaning.asked self.old }
         ensures cause { HasCause (meaning.faults self.old) (meaning.faults self.new) (result ≡ Err DiskFault.Failed) };
 
     /// The files are at every moment one of the images.

@@ -5,13 +5,13 @@ ghost use Rattle.gopass_base.specs.Text.{Text};
 ghost use Rattle.gopass_base.specs.Faults.{HasCause, counted};
 ghost use Rattle.gopass_base.specs.Calls.{no_calls};
 ghost use Rattle.disk_model.specs.Files.{put, moved, Writes, Moves, Drops};
-ghost use Rattle.disk_model.specs.Disk.{Rests, Steps, IsMade, Syncs, Only, Stay, IsDurable};
+ghost use Rattle.disk_model.specs.Disk.{with_limit, Rests, Steps, IsMade, Syncs, Only, Stay, IsDurable};
 ghost use Rattle.disk_model.specs.Answers.{Reads, IsWithin};
 ghost use Rattle.disk_model.specs.Listing.{Lists, IsShort};
 ghost use Rattle.disk_model.specs.Entries.{entries_of, files_of, is_rising};
 ghost use Rattle.disk_model.specs.Acts.{Write, Rename, Remove, Sync, act_of, before, Images};
 ghost use Rattle.disk_model.specs.Crashes.{picked};
-ghost use Rattle.disk_model.specs.Memory.{IsRecorded, rested, taken, did, view_of, view_sound};
+ghost use Rattle.disk_model.specs.Memory.{IsRecorded, rested, asked_up_to, taken, did, view_of, view_sound};
 
 use crate::act::{Act, record, removed, renamed, written};
 use crate::crash::{Pick, left_at};
@@ -31,6 +31,7 @@ pub struct MemDisk {
     files: Vec<(FilePath, Vec<u8>)>,
     log: Vec<(u64, Act)>,
     calls: CallLog,
+    asked: u128,
     is_held: bool,
 }
 
@@ -39,9 +40,9 @@ impl Model for MemDisk {
 
     ghost Value = { MemoryDisk };
 
-    ghost view = { λ disk. memory_of disk.start.items disk.files.items disk.log.items disk.calls disk.is_held };
+    ghost view = { λ disk. memory_of disk.start.items disk.files.items disk.log.items disk.calls disk.asked disk.is_held };
 
-    ghost invariant = { λ disk. IsRecorded (memory_of disk.start.items disk.files.items disk.log.items disk.calls disk.is_held) };
+    ghost invariant = { λ disk. IsRecorded (memory_of disk.start.items disk.files.items disk.log.items disk.calls disk.asked disk.is_held) };
 }
 
 /// The files in rising order of their paths.
@@ -79,6 +80,7 @@ fn begin(alloc: Global, files: Vec<(FilePath, Vec<u8>)>) -> Result<MemDisk, NoMe
     ensures entries { IfOk result (λ disk. disk.entries ≡ entries_of files.items) }
     ensures log { IfOk result (λ disk. disk.log ≡ []) }
     ensures calls { IfOk result (λ disk. disk.calls ≡ no_calls []) }
+    ensures asked { IfOk result (λ disk. disk.asked ≡ 0) }
     ensures held { IfOk result (λ disk. IsFalse disk.held) }
     ensures stands { IfOk result (λ disk. IsDurable (files_of disk.entries) (view_of disk)) }
 {
@@ -87,6 +89,7 @@ fn begin(alloc: Global, files: Vec<(FilePath, Vec<u8>)>) -> Result<MemDisk, NoMe
         files,
         log: Vec::new(alloc),
         calls: CallLog::new(Vec::new(alloc)),
+        asked: 0,
         is_held: false,
     })
 }
@@ -99,6 +102,7 @@ impl MemDisk {
         ensures start { IfOk result (λ disk. disk.start ≡ disk.entries) }
         ensures log { IfOk result (λ disk. disk.log ≡ []) }
         ensures calls { IfOk result (λ disk. disk.calls ≡ no_calls []) }
+        ensures asked { IfOk result (λ disk. disk.asked ≡ 0) }
         ensures held { IfOk result (λ disk. IsFalse disk.held) }
         ensures stands { IfOk result (λ disk. IsDurable (files_of disk.entries) (view_of disk)) }
     {
@@ -139,6 +143,7 @@ impl MemDisk {
         ensures start { IfOk result (λ disk. disk.start ≡ disk.entries) }
         ensures log { IfOk result (λ disk. disk.log ≡ []) }
         ensures calls { IfOk result (λ disk. disk.calls ≡ no_calls []) }
+        ensures asked { IfOk result (λ disk. disk.asked ≡ 0) }
         ensures held { IfOk result (λ disk. IsFalse disk.held) }
         ensures stands { IfOk result (λ disk. IsDurable (files_of disk.entries) (view_of disk)) }
     {
@@ -155,6 +160,18 @@ impl MemDisk {
         ensures cause { HasCause self.old.calls.faults self.new.calls.faults (IsErr result) }
     {
         self.calls.call()
+    }
+
+    /// One call that names a limit and changes nothing.
+    fn ask(&mut self, max: usize) -> Result<(), Failed>
+        ensures recorded { IsRecorded self.old }
+        ensures asked { self.new ≡ asked_up_to max self.old }
+        ensures rests { Rests (view_of self.old) (view_of self.new) }
+        ensures fails { IsErr result ↔ Contains self.old.calls.failing self.old.calls.made }
+        ensures cause { HasCause self.old.calls.faults self.new.calls.faults (IsErr result) }
+    {
+        self.asked = self.asked.saturating_add(max as u128);
+        self.rest()
     }
 
     /// One call that does what the act says, where there is memory for both.
@@ -174,7 +191,7 @@ impl MemDisk {
 }
 
 impl Disk for MemDisk {
-    ghost meaning = { record { tells = Unit {0}; view = view_of; faults = λ disk. disk.calls.faults; calls = λ disk. disk.calls.made; held = λ disk. disk.held } };
+    ghost meaning = { record { tells = Unit {0}; view = view_of; faults = λ disk. disk.calls.faults; calls = λ disk. disk.calls.made; asked = λ disk. disk.asked; held = λ disk. disk.held } };
 
     ghost sound = { λ disk told. view_sound disk };
 
@@ -187,6 +204,7 @@ impl Disk for MemDisk {
         ensures kept { IsTrue self.old.held → IsTrue self.new.held }
         ensures counted { self.new.calls.made ≡ counted self.old.calls.made }
         ensures later { self.old.calls.made ≤ self.new.calls.made }
+        ensures asked { self.new.asked ≡ self.old.asked }
         ensures cause { HasCause self.old.calls.faults self.new.calls.faults (result ≡ Err DiskFault.Failed) }
     {
         self.rest()?;
@@ -195,7 +213,7 @@ impl Disk for MemDisk {
     }
 
     fn list(&mut self, dir: &FilePath, max: usize) -> Result<Listed, DiskFault>
-        ensures rested { self.new ≡ rested self.old }
+        ensures asks { self.new ≡ asked_up_to max self.old }
         ensures fails { result ≡ Err DiskFault.Failed ↔ Contains self.old.calls.failing self.old.calls.made }
         ensures rests { Unit {0} → Rests (view_of self.old) (view_of self.new) }
         ensures listed { IfOk result (λ listed. Unit {0} → Lists (view_of self.old).files dir.now max listed) }
@@ -203,14 +221,15 @@ impl Disk for MemDisk {
         ensures held { self.new.held ≡ self.old.held }
         ensures counted { self.new.calls.made ≡ counted self.old.calls.made }
         ensures later { self.old.calls.made ≤ self.new.calls.made }
+        ensures asked { self.new.asked ≡ with_limit max self.old.asked }
         ensures cause { HasCause self.old.calls.faults self.new.calls.faults (result ≡ Err DiskFault.Failed) }
     {
-        self.rest()?;
+        self.ask(max)?;
         Ok(list(*self.files.allocator(), &self.files, dir, max)?)
     }
 
     fn read(&mut self, path: &FilePath, max: usize) -> Result<Got, DiskFault>
-        ensures rested { self.new ≡ rested self.old }
+        ensures asks { self.new ≡ asked_up_to max self.old }
         ensures fails { result ≡ Err DiskFault.Failed ↔ Contains self.old.calls.failing self.old.calls.made }
         ensures rests { Unit {0} → Rests (view_of self.old) (view_of self.new) }
         ensures got { IfOk result (λ got. Unit {0} → Reads ((view_of self.old).files path.now) max got) }
@@ -218,9 +237,10 @@ impl Disk for MemDisk {
         ensures held { self.new.held ≡ self.old.held }
         ensures counted { self.new.calls.made ≡ counted self.old.calls.made }
         ensures later { self.old.calls.made ≤ self.new.calls.made }
+        ensures asked { self.new.asked ≡ with_limit max self.old.asked }
         ensures cause { HasCause self.old.calls.faults self.new.calls.faults (result ≡ Err DiskFault.Failed) }
     {
-        self.rest()?;
+        self.ask(max)?;
         Ok(read(&self.files, path, max)?)
     }
 
@@ -233,6 +253,7 @@ impl Disk for MemDisk {
         ensures held { self.new.held ≡ self.old.held }
         ensures counted { self.new.calls.made ≡ counted self.old.calls.made }
         ensures later { self.old.calls.made ≤ self.new.calls.made }
+        ensures asked { self.new.asked ≡ self.old.asked }
         ensures cause { HasCause self.old.calls.faults self.new.calls.faults (result ≡ Err DiskFault.Failed) }
     {
         let act = written(*self.files.allocator(), path, bytes);
@@ -248,6 +269,7 @@ impl Disk for MemDisk {
         ensures held { self.new.held ≡ self.old.held }
         ensures counted { self.new.calls.made ≡ counted self.old.calls.made }
         ensures later { self.old.calls.made ≤ self.new.calls.made }
+        ensures asked { self.new.asked ≡ self.old.asked }
         ensures cause { HasCause self.old.calls.faults self.new.calls.faults (result ≡ Err DiskFault.Failed) }
     {
         let act = renamed(*self.files.allocator(), from, to);
@@ -263,6 +285,7 @@ impl Disk for MemDisk {
         ensures held { self.new.held ≡ self.old.held }
         ensures counted { self.new.calls.made ≡ counted self.old.calls.made }
         ensures later { self.old.calls.made ≤ self.new.calls.made }
+        ensures asked { self.new.asked ≡ self.old.asked }
         ensures cause { HasCause self.old.calls.faults self.new.calls.faults (result ≡ Err DiskFault.Failed) }
     {
         let act = removed(*self.files.allocator(), path);
@@ -279,6 +302,7 @@ impl Disk for MemDisk {
         ensures held { self.new.held ≡ self.old.held }
         ensures counted { self.new.calls.made ≡ counted self.old.calls.made }
         ensures later { self.old.calls.made ≤ self.new.calls.made }
+        ensures asked { self.new.asked ≡ self.old.asked }
         ensures cause { HasCause self.old.calls.faults self.new.calls.faults (result ≡ Err DiskFault.Failed) }
     {
         self.make(Ok(Act::Sync))

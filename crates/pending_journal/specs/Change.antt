@@ -3,7 +3,7 @@ use Rattle.std.specs.Prelude.{◌≡◌, ◌<◌, ◌≤◌, false, true, List, 
 use Rattle.gopass_base.specs.Text.{Text, is_among}
 use Rattle.disk_model.specs.Files.{Files}
 use Rattle.pending_journal.specs.Service.{is_service}
-use Rattle.pending_journal.specs.Journal.{JournalPlan, paths_of}
+use Rattle.pending_journal.specs.Journal.{JournalPlan, paths_of, most_steps}
 use Rattle.pending_journal.specs.Built.{plan_by}
 use Rattle.pending_journal.specs.declared.put.Put.{Put}
 use Rattle.pending_journal.specs.declared.change.Change.{Change}
@@ -38,14 +38,14 @@ pub record IsSameChange (old new : Change) : Type 0 where
   pub puts : new.puts.items ≡ old.puts.items
   pub drops : new.drops.items ≡ old.drops.items
 
--- a path may be added where no step has it, it is none of the vault's own, and there are fewer than 16,400 steps. The
--- refusals stand in this order, and want of memory comes after them
+-- a path may be added where no step has it, it is none of the vault's own, and there is room for a step more. The refusals
+-- stand in this order, and want of memory comes after them
 abbrev pub MayAdd : (root : Text) → JournalPlan → Text → {T : Type 0} → Result T ChangeAddFault → Type 0
-MayAdd root plan path (Ok done) = (¬ Contains (paths_of plan) path) × (is_service root path ≡ false) × (length (paths_of plan) < 16400)
+MayAdd root plan path (Ok done) = (¬ Contains (paths_of plan) path) × (is_service root path ≡ false) × (length (paths_of plan) < most_steps)
 MayAdd root plan path (Err TwoForOne) = Contains (paths_of plan) path
 MayAdd root plan path (Err Service) = (¬ Contains (paths_of plan) path) × (is_service root path ≡ true)
-MayAdd root plan path (Err Long) = (¬ Contains (paths_of plan) path) × (is_service root path ≡ false) × (16400 ≤ length (paths_of plan))
-MayAdd root plan path (Err NoMemory) = (¬ Contains (paths_of plan) path) × (is_service root path ≡ false) × (length (paths_of plan) < 16400)
+MayAdd root plan path (Err Long) = (¬ Contains (paths_of plan) path) × (is_service root path ≡ false) × (most_steps ≤ length (paths_of plan))
+MayAdd root plan path (Err NoMemory) = (¬ Contains (paths_of plan) path) × (is_service root path ≡ false) × (length (paths_of plan) < most_steps)
 
 -- a refusal as an answer
 abbrev pub as_result : Option ChangeAddFault → Result (Unit {0}) ChangeAddFault

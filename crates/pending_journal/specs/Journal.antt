@@ -28,13 +28,21 @@ drop_lines (path ∷ paths) rest = codes "drop\t" ++ (path ++ 10 ∷ drop_lines 
 abbrev pub journal_text : JournalPlan → Text
 journal_text plan = codes "journal 1\n" ++ put_lines plan.puts (drop_lines plan.drops (codes "end\n"))
 
--- a journal may ask for this: at most 16,400 paths of files, each once, none of which is the vault's own
+-- how many bytes are read of a journal at most. None has more
+abbrev pub most_bytes : ℕ
+most_bytes = 20000000
+
+-- how many steps there are at most
+abbrev pub most_steps : ℕ
+most_steps = 16400
+
+-- a journal may ask for this: so many paths of files, each once, none of which is the vault's own
 pub record IsJournalPlan (root : Text) (plan : JournalPlan) : Type 0 where
   pub paths : All IsFilePath (paths_of plan)
   pub texts : All (λ path. IsTrue (is_utf8 path)) (paths_of plan)
   pub plain : All (λ path. is_service root path ≡ false) (paths_of plan)
   pub differ : AllPairs (λ a b. a ≢ b) (paths_of plan)
-  pub few : length (paths_of plan) ≤ 16400
+  pub few : length (paths_of plan) ≤ most_steps
 
 -- a decimal digit of a number
 abbrev pub digit : ℕ → ℕ

@@ -1,6 +1,7 @@
 -- What the opening of a vault gives, and what its readings keep.
 use Rattle.std.specs.Prelude.{◌≡◌, IsFalse}
 use Rattle.gopass_base.specs.Text.{Text}
+use Rattle.disk_model.specs.Disk.{Rests}
 use Rattle.disk_model.specs.declared.disk.Disk.{Ghosts}
 use Rattle.pending_journal.specs.declared.vault.Vault.{Vault}
 use Rattle.pending_journal.specs.declared.fault.VaultFault.{VaultFault}
@@ -28,8 +29,9 @@ abbrev pub OnDisk : {D : Type 0} {G : Ghosts D} → VaultOpened D G → (D → T
 OnDisk (Ready vault) P = P vault.disk
 OnDisk (Refused fault disk) P = P disk
 
--- root, commits and whether it is stuck stay
-pub record IsSameVault {D : Type 0} {G : Ghosts D} (old new : Vault D G) : Type 0 where
+-- a call that only reads: root, commits and whether it is stuck stay, and where the disk tells nothing of it changes but the time
+pub record OnlyReads {D : Type 0} {G : Ghosts D} (old new : Vault D G) : Type 0 where
   pub root : new.root ≡ old.root
   pub commits : new.commits ≡ old.commits
   pub stuck : new.stuck ≡ old.stuck
+  pub rests : G.meaning.tells → Rests (G.meaning.view old.disk) (G.meaning.view new.disk)

@@ -18,6 +18,7 @@ fn stage<D: Disk>(disk: &mut D, change: &Change) -> Result<(), DiskFault>
     ensures runs { D.meaning.tells → Runs (IsUnseen change.now.root) (D.meaning.view disk.old) (D.meaning.view disk.new) }
     ensures staged { OnOk result (D.meaning.tells → IsStaged change.now (length change.now.puts.items) (D.meaning.view disk.old).files (D.meaning.view disk.new).files) }
     ensures held { D.meaning.held disk.new ≡ D.meaning.held disk.old }
+    ensures asked { D.meaning.asked disk.new ≡ D.meaning.asked disk.old }
     ensures costs { Costs (length change.now.puts.items) (D.meaning.calls disk.old) (D.meaning.calls disk.new) (IsOk result) }
     ensures cause { HasCause (D.meaning.faults disk.old) (D.meaning.faults disk.new) (result ≡ Err DiskFault.Failed) }
 {
@@ -32,6 +33,7 @@ fn fetch<D: Disk>(disk: &mut D, change: &Change) -> Result<(), DiskFault>
     ensures runs { D.meaning.tells → Runs (IsOfPlan change.now.root (plan_in change.now)) (D.meaning.view disk.old) (D.meaning.view disk.new) }
     ensures fetched { OnOk result (D.meaning.tells → IsFetched change.now (length change.now.puts.items) (D.meaning.view disk.old).files (D.meaning.view disk.new).files) }
     ensures held { D.meaning.held disk.new ≡ D.meaning.held disk.old }
+    ensures asked { D.meaning.asked disk.new ≡ D.meaning.asked disk.old }
     ensures costs { Costs (length change.now.puts.items) (D.meaning.calls disk.old) (D.meaning.calls disk.new) (IsOk result) }
     ensures cause { HasCause (D.meaning.faults disk.old) (D.meaning.faults disk.new) (result ≡ Err DiskFault.Failed) }
 {
@@ -46,6 +48,7 @@ pub(crate) fn remove_all<D: Disk>(disk: &mut D, paths: &[FilePath]) -> Result<()
     ensures runs { D.meaning.tells → Runs (IsSameBut paths.now) (D.meaning.view disk.old) (D.meaning.view disk.new) }
     ensures removed { OnOk result (D.meaning.tells → IsRemoved paths.now (length paths.now) (D.meaning.view disk.old).files (D.meaning.view disk.new).files) }
     ensures held { D.meaning.held disk.new ≡ D.meaning.held disk.old }
+    ensures asked { D.meaning.asked disk.new ≡ D.meaning.asked disk.old }
     ensures costs { Costs (length paths.now) (D.meaning.calls disk.old) (D.meaning.calls disk.new) (IsOk result) }
     ensures cause { HasCause (D.meaning.faults disk.old) (D.meaning.faults disk.new) (result ≡ Err DiskFault.Failed) }
 {
@@ -61,6 +64,7 @@ fn prepare<D: Disk>(disk: &mut D, change: &Change) -> Result<(), DiskFault>
     ensures ready { OnOk result (D.meaning.tells → IsReady change.now (D.meaning.view disk.old).files (D.meaning.view disk.new).files) }
     ensures only { OnOk result (D.meaning.tells → Only (D.meaning.view disk.new).files (D.meaning.view disk.new)) }
     ensures held { D.meaning.held disk.new ≡ D.meaning.held disk.old }
+    ensures asked { D.meaning.asked disk.new ≡ D.meaning.asked disk.old }
     ensures costs { Costs (length change.now.puts.items + 2) (D.meaning.calls disk.old) (D.meaning.calls disk.new) (IsOk result) }
     ensures cause { HasCause (D.meaning.faults disk.old) (D.meaning.faults disk.new) (result ≡ Err DiskFault.Failed) }
 {
@@ -75,6 +79,7 @@ fn seal<D: Disk>(disk: &mut D, change: &Change) -> Result<(), DiskFault>
         → Leaves (IsEither (D.meaning.view disk.old).files (moved change.now.fresh change.now.journal (D.meaning.view disk.old).files)) (D.meaning.view disk.old) (D.meaning.view disk.new) }
     ensures sealed { OnOk result (D.meaning.tells → IsDurable (moved change.now.fresh change.now.journal (D.meaning.view disk.old).files) (D.meaning.view disk.new)) }
     ensures held { D.meaning.held disk.new ≡ D.meaning.held disk.old }
+    ensures asked { D.meaning.asked disk.new ≡ D.meaning.asked disk.old }
     ensures costs { Costs 2 (D.meaning.calls disk.old) (D.meaning.calls disk.new) (IsOk result) }
     ensures cause { HasCause (D.meaning.faults disk.old) (D.meaning.faults disk.new) (result ≡ Err DiskFault.Failed) }
 {
@@ -88,6 +93,7 @@ pub(crate) fn settle<D: Disk>(disk: &mut D, change: &Change) -> Result<(), DiskF
     ensures carried { OnOk result (D.meaning.tells → IsCarried change.now (D.meaning.view disk.old).files (D.meaning.view disk.new).files) }
     ensures only { OnOk result (D.meaning.tells → Only (D.meaning.view disk.new).files (D.meaning.view disk.new)) }
     ensures held { D.meaning.held disk.new ≡ D.meaning.held disk.old }
+    ensures asked { D.meaning.asked disk.new ≡ D.meaning.asked disk.old }
     ensures costs { Costs (length change.now.puts.items + length change.now.drops.items + 1) (D.meaning.calls disk.old) (D.meaning.calls disk.new) (IsOk result) }
     ensures cause { HasCause (D.meaning.faults disk.old) (D.meaning.faults disk.new) (result ≡ Err DiskFault.Failed) }
 {
@@ -102,6 +108,7 @@ pub(crate) fn finish<D: Disk>(disk: &mut D, journal: &FilePath) -> Result<(), Di
         → Leaves (IsEither (D.meaning.view disk.old).files (put (D.meaning.view disk.old).files journal.now None)) (D.meaning.view disk.old) (D.meaning.view disk.new) }
     ensures ended { OnOk result (D.meaning.tells → IsDurable (put (D.meaning.view disk.old).files journal.now None) (D.meaning.view disk.new)) }
     ensures held { D.meaning.held disk.new ≡ D.meaning.held disk.old }
+    ensures asked { D.meaning.asked disk.new ≡ D.meaning.asked disk.old }
     ensures costs { Costs 2 (D.meaning.calls disk.old) (D.meaning.calls disk.new) (IsOk result) }
     ensures cause { HasCause (D.meaning.faults disk.old) (D.meaning.faults disk.new) (result ≡ Err DiskFault.Failed) }
 {
@@ -116,6 +123,7 @@ pub(crate) fn carry_out<D: Disk>(disk: &mut D, change: &Change) -> Result<(), Di
     ensures made { OnOk result (D.meaning.tells → IsDurable (changed change.now (D.meaning.view disk.old).files) (D.meaning.view disk.new)) }
     ensures at_rest { OnOk result (D.meaning.tells → IsAtRest change.now.root (D.meaning.view disk.new)) }
     ensures held { D.meaning.held disk.new ≡ D.meaning.held disk.old }
+    ensures asked { D.meaning.asked disk.new ≡ D.meaning.asked disk.old }
     ensures costs { Costs (2 * length change.now.puts.items + length change.now.drops.items + 7) (D.meaning.calls disk.old) (D.meaning.calls disk.new) (IsOk result) }
     ensures cause { HasCause (D.meaning.faults disk.old) (D.meaning.faults disk.new) (result ≡ Err DiskFault.Failed) }
 {

@@ -1,9 +1,10 @@
 //! The opening of a vault.
 
-ghost use Rattle.std.specs.Prelude.{◌≡◌, ◌≤◌, ⊤, IsTrue, IsFalse, Err};
+ghost use Rattle.std.specs.Prelude.{◌≡◌, ◌≤◌, ◌+◌, ◌-◌, ◌^◌, ⊤, IsTrue, IsFalse, Err};
 ghost use Rattle.gopass_base.specs.Faults.{Costs, HasCause};
-ghost use Rattle.disk_model.specs.Disk.{Rests};
+ghost use Rattle.disk_model.specs.Disk.{AsksUpTo, Rests};
 ghost use Rattle.disk_model.specs.Runs.{Leaves};
+ghost use Rattle.pending_journal.specs.Journal.{most_bytes};
 ghost use Rattle.pending_journal.specs.Redo.{IsAtRest, RecoversTo};
 ghost use Rattle.pending_journal.specs.Recovery.{IsOldOrAlike, IsUntouched};
 ghost use Rattle.pending_journal.specs.Faults.{RefusesVault, HasBadJournal};
@@ -36,6 +37,8 @@ impl<D: Disk> Vault<D> {
         ensures ready { IfVaultReady result (λ vault. IsFresh root.now vault
             × (D.meaning.tells → RecoversTo root.now (D.meaning.view disk).files (D.meaning.view vault.disk).files × IsAtRest root.now (D.meaning.view vault.disk))) }
         ensures held { IfVaultReady result (λ vault. IsTrue (D.meaning.held vault.disk)) }
+        ensures asks { OnDisk result (λ after. AsksUpTo (most_bytes + (2 ^ 64 - 1)) (D.meaning.asked disk) (D.meaning.asked after)) }
+        ensures bad_asks { IfVaultRefused result (λ fault after. (n : _) → fault ≡ VaultFault.BadJournal n → AsksUpTo most_bytes (D.meaning.asked disk) (D.meaning.asked after)) }
         ensures costs { IfVaultReady result (λ vault. D.meaning.tells → IsOpenedIn root.now (D.meaning.view disk).files (D.meaning.calls disk) (D.meaning.calls vault.disk)) }
         ensures few { IfVaultRefused result (λ fault after. D.meaning.tells → IsNoMore root.now (D.meaning.view disk).files (D.meaning.calls disk) (D.meaning.calls after)) }
         ensures bad { IfVaultRefused result (λ fault after. D.meaning.tells → HasBadJournal root.now (D.meaning.view disk).files → Costs 3 (D.meaning.calls disk) (D.meaning.calls after) ⊥) }

@@ -1,12 +1,12 @@
 //! What a vault shows of its files.
 
-ghost use Rattle.std.specs.Prelude.{◌≡◌, ◌≤◌, IfOk, IsFalse, true, false, ⊤, Err, length};
+ghost use Rattle.std.specs.Prelude.{◌≡◌, ◌≤◌, ◌+◌, ◌-◌, ◌^◌, IfOk, IsFalse, true, false, ⊤, Err, length};
 ghost use Rattle.gopass_base.specs.Faults.{Costs, HasCause, counted};
-ghost use Rattle.disk_model.specs.Disk.{Rests};
+ghost use Rattle.disk_model.specs.Disk.{AsksUpTo};
 ghost use Rattle.disk_model.specs.Answers.{Reads, IsWithin};
 ghost use Rattle.disk_model.specs.Listing.{Lists, IsShort, IsAtMost};
 ghost use Rattle.pending_journal.specs.Service.{is_service, others, without_service};
-ghost use Rattle.pending_journal.specs.Opened.{IsSameVault};
+ghost use Rattle.pending_journal.specs.Opened.{OnlyReads};
 
 use crate::service::is_service;
 use crate::vault::Vault;
@@ -17,10 +17,10 @@ impl<D: Disk> Vault<D> {
     /// The file under the path, where it has at most `max` bytes, in one call of the disk. The vault's
     /// own files are absent, and the disk is not asked for them.
     pub fn read(&mut self, path: &FilePath, max: usize) -> Result<Got, DiskFault>
-        ensures kept { IsSameVault self.old self.new }
-        ensures rests { D.meaning.tells → Rests (D.meaning.view self.old.disk) (D.meaning.view self.new.disk) }
+        ensures only_reads { OnlyReads self.old self.new }
         ensures got { IfOk result (λ got. D.meaning.tells → Reads (without_service self.old.root (D.meaning.view self.old.disk).files path.now) max got) }
         ensures bound { IfOk result (IsWithin max) }
+        ensures asks { AsksUpTo max (D.meaning.asked self.old.disk) (D.meaning.asked self.new.disk) }
         ensures costs { Costs 1 (D.meaning.calls self.old.disk) (D.meaning.calls self.new.disk) (is_service self.old.root path.now ≡ false) }
         ensures own { is_service self.old.root path.now ≡ true → self.new.disk ≡ self.old.disk }
         ensures cause { HasCause (D.meaning.faults self.old.disk) (D.meaning.faults self.new.disk) (result ≡ Err DiskFault.Failed) }
@@ -34,10 +34,11 @@ impl<D: Disk> Vault<D> {
     /// The paths of all files below the directory but the vault's own, where there are at most
     /// `max`, as `Disk::list` gives them. It is one call of the disk, or two where the vault is stuck.
     pub fn list(&mut self, dir: &FilePath, max: usize) -> Result<Listed, DiskFault>
-        ensures kept { IsSameVault self.old self.new }
-        ensures rests { D.meaning.tells → Rests (D.meaning.view self.old.disk) (D.meaning.view self.new.disk) }
+        ensures only_reads { OnlyReads self.old self.new }
         ensures listed { IfOk result (λ listed. D.meaning.tells → Lists (without_service self.old.root (D.meaning.view self.old.disk).files) dir.now max listed) }
         ensures bound { IfOk result (IsShort max) }
+        ensures asks { IsFalse self.old.stuck → AsksUpTo max (D.meaning.asked self.old.disk) (D.meaning.asked self.new.disk) }
+        ensures asks_most { AsksUpTo (max + (2 ^ 64 - 1)) (D.meaning.asked self.old.disk) (D.meaning.asked self.new.disk) }
         ensures costs { IsFalse self.old.stuck → Costs 1 (D.meaning.calls self.old.disk) (D.meaning.calls self.new.disk) ⊤ }
         ensures most { Costs 2 (D.meaning.calls self.old.disk) (D.meaning.calls self.new.disk) ⊥ }
         ensures cause { HasCause (D.meaning.faults self.old.disk) (D.meaning.faults self.new.disk) (result ≡ Err DiskFault.Failed) }
@@ -52,10 +53,10 @@ impl<D: Disk> Vault<D> {
     /// The same by a listing of all files, where there are more than `max` with the vault's own. A
     /// vault that is not stuck has none of its own there, so only a stuck one needs it.
     fn list_all(&mut self, dir: &FilePath, max: usize) -> Result<Listed, DiskFault>
-        ensures kept { IsSameVault self.old self.new }
-        ensures rests { D.meaning.tells → Rests (D.meaning.view self.old.disk) (D.meaning.view self.new.disk) }
+        ensures only_reads { OnlyReads self.old self.new }
         ensures listed { IfOk result (λ listed. D.meaning.tells → Lists (without_service self.old.root (D.meaning.view self.old.disk).files) dir.now max listed) }
         ensures bound { IfOk result (IsShort max) }
+        ensures asks { AsksUpTo (2 ^ 64 - 1) (D.meaning.asked self.old.disk) (D.meaning.asked self.new.disk) }
         ensures counted { D.meaning.calls self.new.disk ≡ counted (D.meaning.calls self.old.disk) }
         ensures later { D.meaning.calls self.old.disk ≤ D.meaning.calls self.new.disk }
         ensures cause { HasCause (D.meaning.faults self.old.disk) (D.meaning.faults self.new.disk) (result ≡ Err DiskFault.Failed) }

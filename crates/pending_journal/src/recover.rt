@@ -1,12 +1,13 @@
 //! What a crash left is made whole.
 
-ghost use Rattle.std.specs.Prelude.{◌≡◌, ◌≤◌, ◌+◌, ℕ, List, length, ⊤, None, Some, MatchOption, IfOk, IfErr, IsOk, IsTrue, IsFalse, OnOk, OnErr, Err};
+ghost use Rattle.std.specs.Prelude.{◌≡◌, ◌≤◌, ◌+◌, ◌-◌, ◌^◌, ℕ, List, length, ⊤, None, Some, MatchOption, IfOk, IfErr, IsOk, IsTrue, IsFalse, OnOk, OnErr, Err};
 ghost use Rattle.gopass_base.specs.Faults.{Costs, HasCause, counted};
-ghost use Rattle.disk_model.specs.Disk.{Rests, Syncs, Only};
+ghost use Rattle.disk_model.specs.Disk.{AsksUpTo, Rests, Syncs, Only};
 ghost use Rattle.gopass_base.specs.Text.{Text};
 ghost use Rattle.disk_model.specs.Listing.{IsListing};
 ghost use Rattle.disk_model.specs.Runs.{Runs, Leaves};
 ghost use Rattle.pending_journal.specs.Service.{stage_dir};
+ghost use Rattle.pending_journal.specs.Journal.{most_bytes};
 ghost use Rattle.pending_journal.specs.Redo.{RecoversTo, IsAlike, IsAtRest};
 ghost use Rattle.pending_journal.specs.Carrying.{IsUnseen};
 ghost use Rattle.pending_journal.specs.Change.{plan_in};
@@ -26,7 +27,7 @@ use std::alloc::Global;
 /// How many bytes a journal has at most.
 const MAX_JOURNAL: usize = 20_000_000;
 
-/// The change of the journal, where one is there, of at most 20,000,000 bytes.
+/// The change of the journal, where one is there.
 fn find_journal<D: Disk>(
     alloc: Global,
     disk: &mut D,
@@ -36,9 +37,10 @@ fn find_journal<D: Disk>(
     ensures rests { D.meaning.tells → Rests (D.meaning.view disk.old) (D.meaning.view disk.new) }
     ensures found { IfOk result (λ found. MatchOption found (D.meaning.tells → (D.meaning.view disk.old).files own.now.journal ≡ None)
         (λ change. (change.root ≡ own.now.root) × (D.meaning.tells → (D.meaning.view disk.old).files own.now.journal ≡ Some change.text.items))) }
-    ensures bound { IfOk result (λ found. MatchOption found ⊤ (λ change. length change.text.items ≤ 20000000)) }
+    ensures bound { IfOk result (λ found. MatchOption found ⊤ (λ change. length change.text.items ≤ most_bytes)) }
     ensures refuses { IfErr result (λ fault. D.meaning.tells → RefusesVault own.now.root (D.meaning.view disk.old).files fault) }
     ensures held { D.meaning.held disk.new ≡ D.meaning.held disk.old }
+    ensures asks { AsksUpTo most_bytes (D.meaning.asked disk.old) (D.meaning.asked disk.new) }
     ensures counted { D.meaning.calls disk.new ≡ counted (D.meaning.calls disk.old) }
     ensures later { D.meaning.calls disk.old ≤ D.meaning.calls disk.new }
     ensures cause { HasCause (D.meaning.faults disk.old) (D.meaning.faults disk.new) (result ≡ Err VaultFault.Disk) }
@@ -58,6 +60,7 @@ fn redo<D: Disk>(disk: &mut D, change: &Change) -> Result<(), DiskFault>
     ensures mended { OnOk result (D.meaning.tells → IsMended change.now.root (D.meaning.view disk.old).files (D.meaning.view disk.new)) }
     ensures moved { OnOk result (D.meaning.tells → IsMovedFrom change.now.root (plan_in change.now).puts (D.meaning.view disk.old).files (D.meaning.view disk.new).files) }
     ensures held { D.meaning.held disk.new ≡ D.meaning.held disk.old }
+    ensures asked { D.meaning.asked disk.new ≡ D.meaning.asked disk.old }
     ensures costs { Costs (length change.now.puts.items + length change.now.drops.items + 3) (D.meaning.calls disk.old) (D.meaning.calls disk.new) (IsOk result) }
     ensures cause { HasCause (D.meaning.faults disk.old) (D.meaning.faults disk.new) (result ≡ Err DiskFault.Failed) }
 {
@@ -74,6 +77,7 @@ fn mend<D: Disk>(alloc: Global, disk: &mut D, own: &OwnPaths) -> Result<(), Vaul
     ensures refuses { IfErr result (λ fault. D.meaning.tells → RefusesVault own.now.root (D.meaning.view disk.old).files fault) }
     ensures untouched { (n : _) → result ≡ Err (VaultFault.BadJournal n) → D.meaning.tells → IsUntouched (D.meaning.view disk.old) (D.meaning.view disk.new) }
     ensures held { D.meaning.held disk.new ≡ D.meaning.held disk.old }
+    ensures asks { AsksUpTo most_bytes (D.meaning.asked disk.old) (D.meaning.asked disk.new) }
     ensures costs { OnOk result (D.meaning.tells → IsMendedIn own.now.root (D.meaning.view disk.old).files (D.meaning.view disk.new).files (D.meaning.calls disk.old) (D.meaning.calls disk.new)) }
     ensures few { OnErr result (D.meaning.tells → (n : ℕ) → MendTakes own.now.root ((D.meaning.view disk.old).files own.now.journal) n → Costs n (D.meaning.calls disk.old) (D.meaning.calls disk.new) ⊥) }
     ensures bad { OnErr result (D.meaning.tells → HasBadJournal own.now.root (D.meaning.view disk.old).files → Costs 1 (D.meaning.calls disk.old) (D.meaning.calls disk.new) ⊥) }
@@ -94,6 +98,7 @@ fn clear<D: Disk>(disk: &mut D, own: &OwnPaths) -> Result<(), DiskFault>
     ensures cleared { OnOk result (D.meaning.tells → IsCleared own.now.root (D.meaning.view disk.new).files) }
     ensures only { OnOk result (D.meaning.tells → Only (D.meaning.view disk.new).files (D.meaning.view disk.new)) }
     ensures held { D.meaning.held disk.new ≡ D.meaning.held disk.old }
+    ensures asks { AsksUpTo (2 ^ 64 - 1) (D.meaning.asked disk.old) (D.meaning.asked disk.new) }
     ensures costs { OnOk result (D.meaning.tells → IsClearedIn own.now.root (D.meaning.view disk.old).files (D.meaning.calls disk.old) (D.meaning.calls disk.new)) }
     ensures few { OnErr result (D.meaning.tells → (left : List Text) → IsListing (D.meaning.view disk.old).files (stage_dir own.now.root) left → Costs (length left + 3) (D.meaning.calls disk.old) (D.meaning.calls disk.new) ⊥) }
     ensures cause { HasCause (D.meaning.faults disk.old) (D.meaning.faults disk.new) (result ≡ Err DiskFault.Failed) }
@@ -115,6 +120,7 @@ fn sync<D: Disk>(disk: &mut D) -> Result<(), DiskFault>
     ensures syncs { D.meaning.tells → Syncs (D.meaning.view disk.old) (D.meaning.view disk.new) }
     ensures only { OnOk result (D.meaning.tells → Only (D.meaning.view disk.old).files (D.meaning.view disk.new)) }
     ensures held { D.meaning.held disk.new ≡ D.meaning.held disk.old }
+    ensures asked { D.meaning.asked disk.new ≡ D.meaning.asked disk.old }
     ensures counted { D.meaning.calls disk.new ≡ counted (D.meaning.calls disk.old) }
     ensures later { D.meaning.calls disk.old ≤ D.meaning.calls disk.new }
     ensures cause { HasCause (D.meaning.faults disk.old) (D.meaning.faults disk.new) (result ≡ Err DiskFault.Failed) }
@@ -135,6 +141,8 @@ pub(crate) fn recover<D: Disk>(
     ensures refuses { IfErr result (λ fault. D.meaning.tells → RefusesVault root.now (D.meaning.view disk.old).files fault) }
     ensures untouched { (n : _) → result ≡ Err (VaultFault.BadJournal n) → D.meaning.tells → IsUntouched (D.meaning.view disk.old) (D.meaning.view disk.new) }
     ensures held { OnOk result (IsTrue (D.meaning.held disk.new)) }
+    ensures asks { AsksUpTo (most_bytes + (2 ^ 64 - 1)) (D.meaning.asked disk.old) (D.meaning.asked disk.new) }
+    ensures bad_asks { (k : _) → result ≡ Err (VaultFault.BadJournal k) → AsksUpTo most_bytes (D.meaning.asked disk.old) (D.meaning.asked disk.new) }
     ensures costs { OnOk result (D.meaning.tells → IsOpenedIn root.now (D.meaning.view disk.old).files (D.meaning.calls disk.old) (D.meaning.calls disk.new)) }
     ensures few { OnErr result (D.meaning.tells → IsNoMore root.now (D.meaning.view disk.old).files (D.meaning.calls disk.old) (D.meaning.calls disk.new)) }
     ensures bad { OnErr result (D.meaning.tells → HasBadJournal root.now (D.meaning.view disk.old).files → Costs 3 (D.meaning.calls disk.old) (D.meaning.calls disk.new) ⊥) }

@@ -79,6 +79,7 @@ impl<D: Disk> Vault<D> {
         ensures was_stuck { result ≡ Err CommitFault.Stuck ↔ IsTrue self.old.stuck }
         ensures is_stuck { self.new.stuck ≡ is_err result }
         ensures root { self.new.root ≡ self.old.root }
+        ensures asked { D.meaning.asked self.new.disk ≡ D.meaning.asked self.old.disk }
         ensures costs { Costs (2 * length change.now.puts.items + length change.now.drops.items + 7) (D.meaning.calls self.old.disk) (D.meaning.calls self.new.disk) (IsOk result) }
         ensures cause { HasCause (D.meaning.faults self.old.disk) (D.meaning.faults self.new.disk) (result ≡ Err CommitFault.Disk) }
     {

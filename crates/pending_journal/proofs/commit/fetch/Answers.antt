@@ -26,6 +26,7 @@ loop-put-preserved g c =
       fetched = λ told. fetch_files c.args.change.now.root c.args.change.now c.args.change.now.built i p is lt _ _ _ (c.loop-put.invariant.fetched told) (c.in_ok-rename.ensures.made told).files;
       faults = search rules;
       held = c.rename.ensures.held ∙ c.loop-put.invariant.held;
+      asked = c.rename.ensures.asked ∙ c.loop-put.invariant.asked;
       costs = costs_is (omega arith) (λ t. t) (costs_then (λ t. t) (λ t. t) c.loop-put.invariant.costs (costs_one c.rename.ensures.counted c.rename.ensures.later));
     }
 

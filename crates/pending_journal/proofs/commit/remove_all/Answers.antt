@@ -14,6 +14,7 @@ loop-path-preserved g c = record {
   removed = λ told. removed_more c.args.paths.now c.loop-path.path-index c.path-item.result c.path-item.is (omega arith) _ _ _ (c.loop-path.invariant.removed told) (c.in_ok-remove.ensures.made told).files;
   faults = search rules;
   held = c.remove.ensures.held ∙ c.loop-path.invariant.held;
+  asked = c.remove.ensures.asked ∙ c.loop-path.invariant.asked;
   costs = costs_is (omega arith) (λ t. t) (costs_then (λ t. t) (λ t. t) c.loop-path.invariant.costs (costs_one c.remove.ensures.counted c.remove.ensures.later));
 }
 

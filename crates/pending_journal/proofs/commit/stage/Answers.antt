@@ -28,6 +28,7 @@ loop-put-preserved g c =
           ((c.in_ok-write.ensures.made told).files ∙ ap (λ b. put (g.D.Disk.meaning.view c.loop-put.disk).files p.staged (Some b)) c.deref.ensures.value);
       faults = search rules;
       held = c.write.ensures.held ∙ c.loop-put.invariant.held;
+      asked = c.write.ensures.asked ∙ c.loop-put.invariant.asked;
       costs = costs_is (omega arith) (λ t. t) (costs_then (λ t. t) (λ t. t) c.loop-put.invariant.costs (costs_one c.write.ensures.counted c.write.ensures.later));
     }
 

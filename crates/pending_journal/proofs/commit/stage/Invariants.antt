@@ -13,5 +13,6 @@ invariant-loop-put g l =
       staged : g.D.Disk.meaning.tells → IsStaged l.change l.put-index (view l.fn.disk).files (view l.disk).files;
       faults : g.D.Disk.meaning.faults l.disk ≡ g.D.Disk.meaning.faults l.fn.disk;
       held : g.D.Disk.meaning.held l.disk ≡ g.D.Disk.meaning.held l.fn.disk;
+      asked : g.D.Disk.meaning.asked l.disk ≡ g.D.Disk.meaning.asked l.fn.disk;
       costs : Costs l.put-index (g.D.Disk.meaning.calls l.fn.disk) (g.D.Disk.meaning.calls l.disk) ⊤;
     }
