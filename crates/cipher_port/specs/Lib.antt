@@ -1,3 +1,4 @@
+pub mod Limits
 pub mod Tool
 pub mod StandinText
 pub mod Standin

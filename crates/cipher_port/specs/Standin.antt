@@ -8,8 +8,9 @@ use Rattle.std.specs.Cmp.Lexicographic.{slice_cmp}
 use Rattle.hex.specs.Hex.{decode_of}
 use Rattle.gopass_base.specs.Text.{Text}
 use Rattle.gopass_base.specs.Lines.{pieces_of}
-use Rattle.recipient_files.specs.Ids.{Ids}
+use Rattle.recipient_files.specs.Ids.{Ids, most_ids}
 use Rattle.recipient_files.specs.IdText.{id_at}
+use Rattle.cipher_port.specs.Limits.{most_digits}
 use Rattle.cipher_port.specs.Tool.{Content, made_of}
 
 -- ---- an id behind others
@@ -18,9 +19,9 @@ use Rattle.cipher_port.specs.Tool.{Content, made_of}
 abbrev pub is_below : Text → Text → Bool
 is_below text id = is_lt (slice_cmp nat_cmp id text)
 
--- whether a text has its place behind the ids: they are fewer than 64, and each is below it
+-- whether a text has its place behind the ids: they are not at their limit, and each is below it
 abbrev pub has_place : Ids → Text → Bool
-has_place ids text = nat_lt (length ids) 64 && list_all (is_below text) ids
+has_place ids text = nat_lt (length ids) most_ids && list_all (is_below text) ids
 
 -- the ids with one more, if the text is an id that has its place there
 unfoldable pub with_next : Ids → Text → Option Ids
@@ -47,9 +48,9 @@ digits_at line after = if is_end after && begins_with (codes "body ") line then 
 abbrev pub is_lower_digit : ℕ → Bool
 is_lower_digit b = (nat_le 48 b && nat_le b 57) || (nat_le 97 b && nat_le b 102)
 
--- whether digits are in lower case, and at most two for each of 32,768 bytes
+-- whether digits are in lower case, and two at most for each byte that a body may have
 abbrev pub are_body_digits : Text → Bool
-are_body_digits digits = nat_le (length digits) 65536 && list_all is_lower_digit digits
+are_body_digits digits = nat_le (length digits) most_digits && list_all is_lower_digit digits
 
 -- the body that digits stand for
 unfoldable pub body_of : Text → Option Text

@@ -1,7 +1,7 @@
 -- What the readers of the stand-in's parts answer.
 use Rattle.std.specs.Prelude.{◌≡◌, ◌≤◌, length, All, Option, None, Some, Result, Ok, Err}
 use Rattle.gopass_base.specs.Order.{IsRising}
-use Rattle.recipient_files.specs.Ids.{Ids, IsId}
+use Rattle.recipient_files.specs.Ids.{Ids, IsId, most_ids}
 use Rattle.cipher_port.specs.declared.standin.StandinFault.{StandinFault}
 use Rattle.cipher_port.specs.declared.standin.StandinFault.TheVariants.{NotSealed, NoMemory}
 
@@ -13,6 +13,6 @@ Gives view (Err NoMemory) read = Unit {0}
 
 -- ids read so far: as recipients are, and there may be none yet
 pub record IsSoFar (ids : Ids) : Type 0 where
-  pub few : length ids ≤ 64
+  pub few : length ids ≤ most_ids
   pub each : All IsId ids
   pub rising : IsRising ids

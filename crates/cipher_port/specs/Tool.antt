@@ -3,6 +3,7 @@ use Rattle.std.specs.Prelude.{◌≡◌, ℕ, ◌<◌, ◌≤◌, Bool, true, fa
 use Rattle.std.specs.List.{list_any}
 use Rattle.gopass_base.specs.Text.{Text, is_among}
 use Rattle.recipient_files.specs.Ids.{Ids, IsRecipients}
+use Rattle.cipher_port.specs.Limits.{most_body, most_sealed}
 use Rattle.cipher_port.specs.declared.cipher.SealFault.{SealFault}
 use Rattle.cipher_port.specs.declared.cipher.SealFault.TheVariants as seal
 use Rattle.cipher_port.specs.declared.cipher.WhomFault.{WhomFault}
@@ -46,8 +47,8 @@ has_key_of ring ids = list_any (is_among ring.held) ids
 
 -- bytes past the limit open to nothing, and what is opened keeps its limits
 pub record IsSealing (bytes : Text) (content : Option Content) : Type 0 where
-  pub long : 131072 < length bytes → content ≡ None
-  pub each : (c : Content) → content ≡ Some c → IsRecipients c.to × (length c.body ≤ 32768)
+  pub long : most_sealed < length bytes → content ≡ None
+  pub each : (c : Content) → content ≡ Some c → IsRecipients c.to × (length c.body ≤ most_body)
 
 -- what `seal` answers: bytes that open to just these ids and this body, and `UnknownId` with the place of the first id
 -- that is not known; a failed call and want of memory may stand for both

@@ -3,6 +3,7 @@
 ghost use Rattle.std.specs.Prelude.{◌≡◌, ℕ, length, ◌<◌, ◌≤◌, IfOk, Err, vec_len};
 ghost use Rattle.gopass_base.specs.Text.{Text};
 ghost use Rattle.gopass_base.specs.Faults.{HasCause, counted};
+ghost use Rattle.cipher_port.specs.Limits.{most_body, most_sealed};
 ghost use Rattle.cipher_port.specs.Tool.{ToolMeaning, Seals, Unseals, TellsIds, IsSealing, made_of};
 
 use crate::Recipients;
@@ -94,9 +95,9 @@ pub trait Cipher {
     /// At most 131,072 bytes that open to just these ids and this body, which has at most 32,768
     /// bytes.
     fn seal(&mut self, alloc: Global, to: &Recipients, body: &[u8]) -> Result<Vec<u8>, SealFault>
-        requires { length body.now ≤ 32768 }
+        requires { length body.now ≤ most_body }
         ensures sealed { meaning.tells → Seals meaning.opens (meaning.ring self.old) (made_of to.now body.now) result }
-        ensures bound { IfOk result (λ sealed. vec_len sealed ≤ 131072) }
+        ensures bound { IfOk result (λ sealed. vec_len sealed ≤ most_sealed) }
         ensures place { (place : ℕ) → result ≡ Err (SealFault.UnknownId place) → place < length to.now }
         ensures ring { meaning.ring self.new ≡ meaning.ring self.old }
         ensures calls { meaning.calls self.new ≡ counted (meaning.calls self.old) }
@@ -105,7 +106,7 @@ pub trait Cipher {
     /// The body of the sealed bytes, at most 32,768 bytes.
     fn open(&mut self, alloc: Global, sealed: &[u8]) -> Result<Vec<u8>, UnsealFault>
         ensures opened { meaning.tells → Unseals (meaning.opens sealed.now) (meaning.ring self.old) result }
-        ensures bound { IfOk result (λ body. vec_len body ≤ 32768) }
+        ensures bound { IfOk result (λ body. vec_len body ≤ most_body) }
         ensures ring { meaning.ring self.new ≡ meaning.ring self.old }
         ensures calls { meaning.calls self.new ≡ counted (meaning.calls self.old) }
         ensures cause { HasCause (meaning.faults self.old) (meaning.faults self.new) (result ≡ Err UnsealFault.Failed) };

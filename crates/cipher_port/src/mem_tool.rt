@@ -5,6 +5,7 @@ ghost use Rattle.std.specs.List.{list_any};
 ghost use Rattle.gopass_base.specs.Calls.{no_calls, next_calls};
 ghost use Rattle.gopass_base.specs.Faults.{HasCause};
 ghost use Rattle.gopass_base.specs.Text.{is_among};
+ghost use Rattle.cipher_port.specs.Limits.{most_body, most_sealed};
 ghost use Rattle.cipher_port.specs.Tool.{Seals, Unseals, TellsIds, made_of};
 ghost use Rattle.cipher_port.specs.Standin.{standin_content};
 
@@ -80,9 +81,9 @@ impl Cipher for MemTool {
     ghost limits = { standin_limits };
 
     fn seal(&mut self, alloc: Global, to: &Recipients, body: &[u8]) -> Result<Vec<u8>, SealFault>
-        requires { length body.now ≤ 32768 }
+        requires { length body.now ≤ most_body }
         ensures sealed { Seals standin_content self.old.ring (made_of to.now body.now) result }
-        ensures bound { IfOk result (λ sealed. vec_len sealed ≤ 131072) }
+        ensures bound { IfOk result (λ sealed. vec_len sealed ≤ most_sealed) }
         ensures place { (place : ℕ) → result ≡ Err (SealFault.UnknownId place) → place < length to.now }
         ensures ring { self.new.ring ≡ self.old.ring }
         ensures calls { self.new.calls ≡ next_calls self.old.calls }
@@ -99,7 +100,7 @@ impl Cipher for MemTool {
 
     fn open(&mut self, alloc: Global, sealed: &[u8]) -> Result<Vec<u8>, UnsealFault>
         ensures opened { Unseals (standin_content sealed.now) self.old.ring result }
-        ensures bound { IfOk result (λ body. vec_len body ≤ 32768) }
+        ensures bound { IfOk result (λ body. vec_len body ≤ most_body) }
         ensures ring { self.new.ring ≡ self.old.ring }
         ensures calls { self.new.calls ≡ next_calls self.old.calls }
         ensures fails { result ≡ Err UnsealFault.Failed ↔ Contains self.old.calls.failing self.old.calls.made }

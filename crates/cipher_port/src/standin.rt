@@ -5,6 +5,7 @@ ghost use Rattle.std.specs.List.{flat_map};
 ghost use Rattle.gopass_base.specs.Text.{Text};
 ghost use Rattle.gopass_base.specs.Lines.{pieces_of};
 ghost use Rattle.recipient_files.specs.IdText.{id_at};
+ghost use Rattle.cipher_port.specs.Limits.{most_body, most_sealed};
 ghost use Rattle.cipher_port.specs.Tool.{Content, made_of};
 ghost use Rattle.cipher_port.specs.StandinText.{IsStandinText, standin_text, to_line};
 ghost use Rattle.cipher_port.specs.Standin.{has_place, with_next, is_end, digits_at, are_body_digits, body_of, from_body, from_recipients, standin_content};
@@ -60,10 +61,10 @@ pub fn standin_read(alloc: Global, bytes: &[u8]) -> Result<Sealed, StandinFault>
 /// The text that is sealed for these recipients and this body of at most 32,768 bytes. It has at
 /// most 131,072 bytes, and is read as those.
 pub fn standin_write(alloc: Global, to: &Recipients, body: &[u8]) -> Result<Vec<u8>, NoRoom>
-    requires { length body.now ≤ 32768 }
+    requires { length body.now ≤ most_body }
     ensures text { IfOk result (λ bytes. bytes.items ≡ standin_text (made_of to.now body.now)) }
     ensures again { IfOk result (λ bytes. standin_content bytes.items ≡ Some (made_of to.now body.now)) }
-    ensures bound { IfOk result (λ bytes. vec_len bytes ≤ 131072) }
+    ensures bound { IfOk result (λ bytes. vec_len bytes ≤ most_sealed) }
 {
     let text = write_text(alloc, to.ids(), body)?;
     Ok(text)

@@ -11,3 +11,4 @@ pub mod TableLemmas
 pub mod MountLemmas
 pub mod MountOfLemmas
 pub mod LineLemmas
+pub mod SamePlacesLemmas

@@ -81,7 +81,7 @@ same_before a b c d alias dir alias' dir' h = record {
   apart = λ nest. h.apart (subst (λ (t : Text). Nest a.dir t) (sym dir') (subst (λ (t : Text). Nest t d.dir) (sym dir) nest));
 }
 
-stands_table : (root : Text) (rows now : List Row) (from : ℕ → ℕ) → IsTable root rows → Stands rows now from → IsTable root now
+pub stands_table : (root : Text) (rows now : List Row) (from : ℕ → ℕ) → IsTable root rows → Stands rows now from → IsTable root now
 stands_table root rows now from table stands =
     let are = table.rows_are in
     record {

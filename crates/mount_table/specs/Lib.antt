@@ -7,3 +7,4 @@ pub mod Mounts
 pub mod MountOf
 pub mod MountChanges
 pub mod MountsText
+pub mod SamePlaces

@@ -39,9 +39,13 @@ row_at rows k = slice_index_or rows k no_row
 abbrev pub root_of : List Row → Text
 root_of rows = (row_at rows 0).dir
 
--- at most 64 rows, the first of which is the root's, and each of which stands before those behind it
+-- so many mounts there are at most
+abbrev pub most_mounts : ℕ
+most_mounts = 64
+
+-- not too many rows, the first of which is the root's, and each of which stands before those behind it
 pub record AreRows (root : Text) (rows : List Row) : Type 0 where
-  pub most : length rows ≤ 64
+  pub most : length rows ≤ most_mounts
   pub each : (k : ℕ) → k < length rows → IsRow (row_at rows k)
   pub first : 0 < length rows → ((row_at rows 0).alias ≡ []) × ((row_at rows 0).dir ≡ root)
   pub before : (i k : ℕ) → i < k → k < length rows → IsBefore (row_at rows i) (row_at rows k)

@@ -1,7 +1,7 @@
 -- The text of mounts: a line for each row.
 use Rattle.std.specs.Prelude.{◌≡◌, ◌≢◌, ℕ, ◌+◌, ◌<◌, Bool, true, false, List, [], ◌∷◌, ◌++◌, length, codes}
 use Rattle.gopass_base.specs.Text.{Text}
-use Rattle.mount_table.specs.Mounts.{IsBefore, row_at, AreRows}
+use Rattle.mount_table.specs.Mounts.{IsBefore, row_at, AreRows, most_mounts}
 use Rattle.mount_table.specs.declared.mounts.Row.{Row}
 
 abbrev pub flag_of : Bool → Text
@@ -19,7 +19,7 @@ table_text (row ∷ rows) = line_of row ++ 10 ∷ table_text rows
 
 -- the row may stand behind these: there is room, the first is that of the root, and all others stand before it
 pub record CanFollow (root : Text) (rows : List Row) (row : Row) : Type 0 where
-  pub room : length rows < 64
+  pub room : length rows < most_mounts
   pub first : length rows ≡ 0 → (row.alias ≡ []) × (row.dir ≡ root)
   pub behind : (k : ℕ) → k < length rows → IsBefore (row_at rows k) row
 

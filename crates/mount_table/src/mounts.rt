@@ -19,6 +19,9 @@ use gopass_base::{DirPath, FilePath, NoMemory, copies};
 use std::alloc::{AllocFailed, Global};
 use std::marker::Model;
 
+/// The most mounts.
+pub(crate) const MOST_MOUNTS: usize = 64;
+
 /// A directory of the disk that is mounted under an alias, and whether its changes are recorded
 /// with git.
 #[derive(Debug, Clone, Drop)]
@@ -177,7 +180,7 @@ impl Mounts {
         if let Some(row) = first_nest(&self.rows, dir) {
             return Err(AddFault::DirNests(row));
         }
-        if self.rows.len() >= 64 {
+        if self.rows.len() >= MOST_MOUNTS {
             return Err(AddFault::Full);
         }
         let alloc = *self.rows.allocator();

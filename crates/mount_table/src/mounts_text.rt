@@ -11,7 +11,7 @@ ghost use Rattle.mount_table.specs.declared.mounts.Row.{Row};
 ghost use Rattle.mount_table.specs.declared.mounts_text.MountsFault.TheVariants.{NoMemory as no_memory};
 
 use crate::folder::Folder;
-use crate::mounts::Row;
+use crate::mounts::{MOST_MOUNTS, Row};
 use crate::name::NameFault;
 use crate::part::nest;
 use gopass_base::{DirPath, NoMemory, PathFault, as_text, cut, push, push_line};
@@ -140,7 +140,7 @@ fn can_follow(root: &DirPath, rows: &[Row], row: &Row) -> bool
     if rows.is_empty() {
         return row.alias.text().is_empty() && row.dir.text() == root.text();
     }
-    rows.len() < 64 && stands_behind(row, rows)
+    rows.len() < MOST_MOUNTS && stands_behind(row, rows)
 }
 
 fn stands_behind(row: &Row, rows: &[Row]) -> bool

@@ -25,9 +25,13 @@ Ids = List Text
 abbrev pub without : Ids → Text → Ids
 without ids id = filter (λ one. not (bytes_eq one id)) ids
 
--- a set of recipients: 1 to 64 ids in rising order
+-- so many ids a set has at most
+abbrev pub most_ids : ℕ
+most_ids = 64
+
+-- a set of recipients: one id or more in rising order
 pub record IsRecipients (ids : Ids) : Type 0 where
   pub some : 1 ≤ length ids
-  pub few : length ids ≤ 64
+  pub few : length ids ≤ most_ids
   pub each : All IsId ids
   pub rising : IsRising ids

@@ -1,6 +1,6 @@
 -- What the readers of a rule file answer.
 use Rattle.std.specs.Prelude.{◌≡◌, ◌≤◌, length, All, Option, Some, None, Result, Ok, Err}
-use Rattle.recipient_files.specs.Ids.{Ids, IsId}
+use Rattle.recipient_files.specs.Ids.{Ids, IsId, most_ids}
 use Rattle.recipient_files.specs.RuleText.{BadLine, bad_at}
 use Rattle.recipient_files.specs.declared.rule.RuleKind.{RuleKind}
 use Rattle.recipient_files.specs.declared.rule.RuleFault.{RuleFault}
@@ -22,5 +22,5 @@ ReadsIdLine Is bad (Err line.NoMemory) = Unit {0}
 
 -- ids read so far: at most 64
 pub record AreSomeIds (ids : Ids) : Type 0 where
-  pub few : length ids ≤ 64
+  pub few : length ids ≤ most_ids
   pub each : All IsId ids

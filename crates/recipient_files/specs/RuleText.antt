@@ -6,7 +6,7 @@ use Rattle.std.specs.Str.{is_utf8}
 use Rattle.gopass_base.specs.Text.{Text, is_among}
 use Rattle.gopass_base.specs.Lines.{before_byte, pieces_of}
 use Rattle.gopass_base.specs.Order.{IsSetOf}
-use Rattle.recipient_files.specs.Ids.{Ids}
+use Rattle.recipient_files.specs.Ids.{Ids, most_ids}
 use Rattle.recipient_files.specs.IdText.{is_id}
 use Rattle.recipient_files.specs.declared.rule.RuleKind.{RuleKind}
 use Rattle.recipient_files.specs.declared.rule.RuleKind.TheVariants.{NotText, BadId, TooMany, None as NoId}
@@ -40,7 +40,7 @@ text_fault text = if not (is_utf8 text) then Some NotText else if is_id text the
 
 -- what is wrong with one more id: it is new, and the 65th
 abbrev pub room_fault : Ids → Text → Option RuleKind
-room_fault ids id = if is_among ids id then None else if length ids == 64 then Some TooMany else None
+room_fault ids id = if is_among ids id then None else if length ids == most_ids then Some TooMany else None
 
 -- what is wrong with what is left of a line; nothing is where nothing is left
 abbrev pub line_fault : Ids → Text → Option RuleKind

@@ -3,7 +3,7 @@
 ghost use Rattle.std.specs.Prelude.{◌≡◌, ◌≢◌, ◌↔◌, ◌<◌, ◌≤◌, [], ◌∷◌, ◌++◌, length, IsTrue, IsOk, IfOk, Err, All, Contains};
 ghost use Rattle.gopass_base.specs.Text.{Text, is_among};
 ghost use Rattle.gopass_base.specs.Order.{IsSetOf};
-ghost use Rattle.recipient_files.specs.Ids.{Ids, IsId, IsRecipients, without};
+ghost use Rattle.recipient_files.specs.Ids.{Ids, IsId, IsRecipients, without, most_ids};
 ghost use Rattle.recipient_files.specs.IdText.{is_id};
 ghost use Rattle.recipient_files.specs.Changes.{AddsId, RemovesId};
 ghost use Rattle.recipient_files.specs.RuleText.{IsRule, ids_of, first_bad_line, rule_text};
@@ -86,7 +86,7 @@ impl Recipients {
         ensures set { IfOk result (λ set. IsSetOf set ids.now) }
         ensures some { IsOk result → ids.now ≢ [] }
         ensures empty { result ≡ Err OfFault.Empty → ids.now ≡ [] }
-        ensures too_many { result ≡ Err OfFault.TooMany → (set : Ids) × IsSetOf set ids.now × (64 < length set) }
+        ensures too_many { result ≡ Err OfFault.TooMany → (set : Ids) × IsSetOf set ids.now × (most_ids < length set) }
     {
         if ids.is_empty() {
             return Err(OfFault::Empty);

@@ -7,8 +7,8 @@ use Rattle.mount_table.proofs.MountLemmas.{lacks_by, comes}
 use Rattle.std.proofs.lemmas.Result.{err_from_is_err_and}
 use Rattle.mount_table.proofs.mounts.Mounts.add.Goals as goal
 
-pub returns-then-len-ge64 : goal.returns-then-len-ge64
-returns-then-len-ge64 c =
+pub returns-then-len-ge-MOST_MOUNTS : goal.returns-then-len-ge-MOST_MOUNTS
+returns-then-len-ge-MOST_MOUNTS c =
     let other = lacks_by c.row_of.result c.deref.result.now c.args.alias.now c.row_of.ensures (sym c.is_some.ensures ∙ c.if-is_some.false) in (
       subst (λ (rows : List Row). LacksAlias rows c.args.alias.now) (c.deref.ensures.value ∙ c.self.view_is) other,
       subst (λ (rows : List Row). IsApart rows c.args.dir.now) (c.deref-2.ensures.value ∙ c.self.view_is) c.in_default.ensures,
