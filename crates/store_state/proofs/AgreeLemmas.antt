@@ -99,3 +99,9 @@ row_named opens root files state name cell stands is = by (name_fault name) refl
 -- what a search of the names tells of the keys
 pub among_keys : {X : Type 0} (rows : TextMap X) (names : List Text) (name : Text) (found : Bool) → map.keys rows ≡ names → (IsRising names → IsTrue found ↔ Contains names name) → IsTrue found ↔ Contains (map.keys rows) name
 among_keys rows names name found same tells = subst (λ (keys : List Text). IsTrue found ↔ Contains keys name) (sym same) (tells (subst IsRising same (keys_rise rows)))
+
+-- where a search of the names finds one that is not there, any two numbers are one
+pub found_there : (root : Text) (files : Files) (found : Found) (names : List Text) (name : Text) (has : Bool) (m n : ℕ) → ∥ IsFound root files found ∥₁ → names ≡ found.seen.names.items → (IsRising names → IsTrue has ↔ Contains names name)
+    → IsTrue has → ¬ Contains found.seen.names.items name → m ≡ n
+found_there root files found names name has m n is same tells there out =
+    ∥∥₁_elim is (Coded-set coded_ℕ m n) (λ here. absurd (out (subst (λ (l : List Text). Contains l name) same ((tells (subst IsRising (sym same) here.rising.names)).0 there))))

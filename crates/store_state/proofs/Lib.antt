@@ -22,3 +22,4 @@ pub mod OpenLemmas
 pub mod SecretLemmas
 pub mod FolderMountLemmas
 pub mod FoundLemmas
+pub mod SamePlaces

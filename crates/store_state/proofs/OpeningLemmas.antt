@@ -1,11 +1,11 @@
 -- The store's own files are not the vault's.
-use Rattle.std.proofs.Common.{Some, ◌≡◌, ◌≢◌, ◌≤◌, inr, Result, Err, ℕ, List, length, Bool, Option, None, if◌then◌else◌, codes, refl, ap, sym, ◌∙◌, subst}
+use Rattle.std.proofs.Common.{Some, false, ◌≡◌, ◌≢◌, ◌≤◌, inr, Result, Err, ℕ, List, length, Bool, Option, None, if◌then◌else◌, codes, refl, ap, sym, ◌∙◌, subst}
 use Rattle.gopass_base.specs.Text.{Text}
 use Rattle.disk_model.specs.Files.{Files}
 use Rattle.disk_model.specs.Answers.{Reads}
 use Rattle.disk_model.specs.declared.disk.Got.{Got}
 use Rattle.disk_model.specs.declared.disk.Got.TheVariants.{Absent, Bytes, Long}
-use Rattle.pending_journal.specs.Service.{is_service_rest, without_service}
+use Rattle.pending_journal.specs.Service.{is_service, is_service_rest, without_service}
 use Rattle.mount_table.specs.Mounts.{IsTable, root_of}
 use Rattle.mount_table.specs.declared.mounts.Row.{Row}
 use Rattle.store_state.specs.declared.seen.Seen.{Seen}
@@ -20,11 +20,17 @@ use Rattle.store_state.specs.RuleFiles.{ReadsRules}
 use Rattle.store_state.specs.Opening.{IsSurveyed, OpensStore}
 use Rattle.store_state.proofs.KindLemmas.{rest_found}
 
+pub mounts_plain : (root : Text) → is_service root (mounts_path root) ≡ false
+mounts_plain root = ap is_service_rest (rest_found root (codes ".gopass-mounts"))
+
+pub pending_plain : (root : Text) → is_service root (pending_path root) ≡ false
+pending_plain root = ap is_service_rest (rest_found root (codes ".gopass-pending"))
+
 pub mounts_shown : (root : Text) (files : Files) → without_service root files (mounts_path root) ≡ files (mounts_path root)
-mounts_shown root files = ap (λ (t : Bool). if t then None else files (mounts_path root)) (ap is_service_rest (rest_found root (codes ".gopass-mounts")))
+mounts_shown root files = ap (λ (t : Bool). if t then None else files (mounts_path root)) (mounts_plain root)
 
 pub pending_shown : (root : Text) (files : Files) → without_service root files (pending_path root) ≡ files (pending_path root)
-pending_shown root files = ap (λ (t : Bool). if t then None else files (pending_path root)) (ap is_service_rest (rest_found root (codes ".gopass-pending")))
+pending_shown root files = ap (λ (t : Bool). if t then None else files (pending_path root)) (pending_plain root)
 
 pub read_none : (file : Option Text) (got : Got) → Reads file 0 got → got ≡ Absent → file ≡ None
 read_none file Absent h e = h

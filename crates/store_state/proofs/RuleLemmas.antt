@@ -1,8 +1,9 @@
 -- The file of a folder's rule.
-use Rattle.std.proofs.Common.{inl, refl}
+use Rattle.std.proofs.Common.{inl, refl, ap, subst, ◌∙◌}
 use Rattle.std.specs.Prelude.{◌≡◌, ◌≢◌, ℕ, List, false, None}
 use Rattle.gopass_base.specs.Text.{Text}
-use Rattle.mount_table.specs.Mounts.{row_at, IsTable}
+use Rattle.mount_table.specs.Mounts.{row_at, root_of, IsTable, IsMountOfFolder}
+use Rattle.mount_table.specs.Folders.{IsFolder}
 use Rattle.mount_table.specs.declared.mounts.Row.{Row}
 use Rattle.disk_model.specs.Files.{Files}
 use Rattle.disk_model.specs.Listing.{LiesIn}
@@ -41,3 +42,6 @@ rule_path_differs mounts j k folder other name = (rule_no_template mounts j k fo
 -- nor one of the vault's own
 pub rule_no_service : (root : Text) (mounts : List Row) (k : ℕ) (folder : Text) → IsTable root mounts → IsFolderOf mounts k folder → is_service root (rule_path mounts k folder) ≡ false
 rule_no_service root mounts k folder table own = folder_file_plain root (λ path. None) mounts k folder rule_file is_rule table own
+
+pub rule_file_plain : (root : Text) (mounts : List Row) (folder path : Text) (k : ℕ) → root_of mounts ≡ root → IsTable (root_of mounts) mounts → IsFolder folder → IsMountOfFolder mounts folder k → path ≡ rule_path mounts k folder → is_service root path ≡ false
+rule_file_plain root mounts folder path k rooted table good mount at = ap (is_service root) at ∙ rule_no_service root mounts k folder (subst (λ (r : Text). IsTable r mounts) rooted table) (good, mount)

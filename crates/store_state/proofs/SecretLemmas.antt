@@ -7,12 +7,12 @@ use Rattle.std.proofs.lemmas.Slice.Eq.{bytes_eq-Decides}
 use Rattle.gopass_base.specs.Text.{Text}
 use Rattle.mount_table.specs.Names.{IsName}
 use Rattle.gopass_base.specs.Paths.{path_in, file_of}
-use Rattle.mount_table.specs.Mounts.{row_at, IsTable, IsFileOf}
+use Rattle.mount_table.specs.Mounts.{row_at, root_of, IsTable, IsFileOf}
 use Rattle.mount_table.specs.MountOf.{mount_of}
 use Rattle.mount_table.specs.declared.mounts.Row.{Row}
 use Rattle.mount_table.proofs.MountOfLemmas.{mount_computed}
 use Rattle.disk_model.specs.Files.{Files}
-use Rattle.pending_journal.specs.Service.{without_service}
+use Rattle.pending_journal.specs.Service.{is_service, without_service}
 use Rattle.store_state.specs.Places.{dir_of, rest_of, secret_path, IsSecretAt}
 use Rattle.store_state.specs.Tree.{is_own, tree_files}
 use Rattle.store_state.specs.State.{mounts_path, pending_path}
@@ -91,3 +91,9 @@ pub secret_file : (root : Text) (mounts : List Row) (name path : Text) → IsTab
 secret_file root mounts name path table is =
     let own : is.row ≡ mount_of mounts name = one_row root name mounts is.row (mount_of mounts name) table is.mount (mount_computed root name mounts table) in
     is.file ∙ ap (λ n. file_of (row_at mounts n).dir (drop (rest_start (row_at mounts n).alias name) name)) own
+
+-- and is none of the vault's own
+pub secret_file_plain : (root : Text) (found mounts : List Row) (name path : Text) → mounts ≡ found → root_of found ≡ root → IsTable (root_of mounts) mounts → IsName name → IsFileOf mounts name path → is_service root path ≡ false
+secret_file_plain root found mounts name path same rooted table good file =
+    let here = subst (λ (r : Text). IsTable r mounts) (ap root_of same ∙ rooted) table in
+    ap (is_service root) (secret_file root mounts name path here file) ∙ no_service root mounts name here good

@@ -8,10 +8,11 @@ use Rattle.mount_table.specs.Mounts.{row_at}
 use Rattle.mount_table.specs.declared.mounts.Row.{Row}
 use Rattle.disk_model.specs.Files.{Files}
 use Rattle.disk_model.specs.Listing.{LiesIn, IsThere}
-use Rattle.pending_journal.specs.Opened.{IsSameVault}
+use Rattle.pending_journal.specs.Opened.{OnlyReads}
 use Rattle.disk_model.specs.declared.disk.Disk.{Ghosts}
 use Rattle.pending_journal.specs.declared.vault.Vault.{Vault}
 use Rattle.store_state.specs.declared.kind.Kind.{Kind}
+use Rattle.disk_model.proofs.RunLemmas.{rests_then}
 use Rattle.store_state.specs.declared.seen.Seen.{Seen}
 use Rattle.store_state.specs.declared.fault.StoreFault.{StoreFault}
 use Rattle.store_state.specs.declared.fault.StoreFault.TheVariants.{BadFile, Full, Disk, NoMemory}
@@ -21,8 +22,13 @@ use Rattle.store_state.specs.Found.{LiesAs, HasMore, GivesName, GivesRule, Gives
 use Rattle.store_state.specs.Tree.{IsTree, IsFullTree, tree_files}
 use Rattle.store_state.specs.Survey.{IsMountSeen, IsOfFiles, IsSeen, IsCountOf, IsFullMount}
 
-pub kept_then : {D : Type 0} {G : Ghosts D} (a b c : Vault D G) → IsSameVault a b → IsSameVault b c → IsSameVault a c
-kept_then a b c h k = record { root = k.root ∙ h.root; commits = k.commits ∙ h.commits; stuck = k.stuck ∙ h.stuck }
+pub kept_then : {D : Type 0} {G : Ghosts D} (a b c : Vault D G) → OnlyReads a b → OnlyReads b c → OnlyReads a c
+kept_then {G = G} a b c h k = record {
+  root = k.root ∙ h.root;
+  commits = k.commits ∙ h.commits;
+  stuck = k.stuck ∙ h.stuck;
+  rests = λ told. rests_then (G.meaning.view a.disk) (G.meaning.view b.disk) (G.meaning.view c.disk) (h.rests told) (k.rests told);
+}
 
 -- ---- one mount more
 

@@ -1,10 +1,12 @@
 -- What the opening of a store finds, or what refuses it.
-use Rattle.std.specs.Prelude.{◌≡◌, ◌≢◌, ◌⊎◌, ℕ, ◌<◌, ◌≤◌, List, length, All, Contains, Option, None, Some, Result, Ok, Err}
+use Rattle.std.specs.Prelude.{◌≡◌, ◌≢◌, ◌⊎◌, ℕ, ◌+◌, ◌<◌, ◌≤◌, List, length, All, Contains, Option, None, Some, Result, Ok, Err}
 use Rattle.gopass_base.specs.Text.{Text}
-use Rattle.mount_table.specs.Mounts.{IsTable, root_of}
+use Rattle.mount_table.specs.Mounts.{IsTable, root_of, most_mounts}
 use Rattle.mount_table.specs.MountsText.{IsFirstBad}
 use Rattle.mount_table.specs.declared.mounts.Row.{Row}
 use Rattle.disk_model.specs.Files.{Files}
+use Rattle.path_rules.specs.Limits.{most_rules}
+use Rattle.store_state.specs.Limits.{most_files, most_mounts_bytes, most_secrets}
 use Rattle.store_state.specs.declared.fault.Limit.TheVariants as limit
 use Rattle.store_state.specs.declared.fault.StoreFault.{StoreFault}
 use Rattle.store_state.specs.declared.fault.StoreFault.TheVariants.{BadFile, Full, Disk, NoMemory}
@@ -15,11 +17,11 @@ use Rattle.store_state.specs.Survey.{IsFullMount, IsSurvey}
 use Rattle.store_state.specs.State.{AreMounts, mounts_path, pending_path}
 use Rattle.store_state.specs.RuleFiles.{AreRules, IsBadThere}
 
--- the first bad line of a mounts file; 0 where it has more than 131,072 bytes
+-- the first bad line of a mounts file; 0 where it has more bytes than it may
 abbrev pub IsBadMounts : (root bytes : Text) → ℕ → Type 0
 IsBadMounts root bytes line =
-    ((length bytes ≤ 131072) × IsFirstBad root bytes line)
-    ⊎ ((131072 < length bytes) × (line ≡ 0))
+    ((length bytes ≤ most_mounts_bytes) × IsFirstBad root bytes line)
+    ⊎ ((most_mounts_bytes < length bytes) × (line ≡ 0))
 
 -- the mounts that the file tells, or its first bad line
 abbrev pub TellsMounts : (root : Text) → Option Text → Result (List Row) StoreFault → Type 0
@@ -44,18 +46,27 @@ pub record IsFound (root : Text) (files : Files) (found : Found) : Type 0 where
   pub no_pending : files (pending_path root) ≡ None
   pub survey : IsSurvey root files found.mounts found.seen found.counts.items
   pub rising : AreRising found.seen
-  pub few_rules : length found.seen.rules.items ≤ 512
-  pub few : length found.seen.names.items ≤ 8192
+  pub few_rules : length found.seen.rules.items ≤ most_rules
+  pub few : length found.seen.names.items ≤ most_secrets
   pub rules_are : AreRules root files found.mounts found.seen.rules.items found.rules
 
 -- what is found at most, whether or not the disk tells: so many mounts, of which the first is the root directory, rules,
 -- secrets, and files below each mount
 pub record IsWithinLimits (root : Text) (found : Found) : Type 0 where
   pub rooted : root_of found.mounts ≡ root
-  pub few_mounts : length found.mounts ≤ 64
-  pub few_rules : length found.seen.rules.items ≤ 512
-  pub few_secrets : length found.seen.names.items ≤ 8192
-  pub few_files : All (λ (n : ℕ). n ≤ 40000) found.counts.items
+  pub few_mounts : length found.mounts ≤ most_mounts
+  pub few_rules : length found.seen.rules.items ≤ most_rules
+  pub few_secrets : length found.seen.names.items ≤ most_secrets
+  pub few_files : All (λ (n : ℕ). n ≤ most_files) found.counts.items
+
+-- how many calls of the disk an opening takes: one for the mounts file, one for the pending file, one listing for each
+-- mount, and one reading for each rule
+abbrev pub opening_calls : Found → ℕ
+opening_calls found = 2 + length found.mounts + length found.seen.rules.items
+
+-- and how many it takes at most, where it is refused too
+abbrev pub most_opening_calls : ℕ
+most_opening_calls = 2 + most_mounts + most_rules
 
 -- the mounts file is bad
 abbrev pub HasBadMounts : (root : Text) → Files → (path : Text) → ℕ → Type 0
@@ -79,17 +90,17 @@ pub record IsSurveyed (root : Text) (files : Files) (mounts : List Row) (seen : 
 
 -- no mount has too many files, and there are too many rules
 abbrev pub HasManyRules : (root : Text) → Files → Type 0
-HasManyRules root files = (mounts : List Row) × (seen : Seen) × IsSurveyed root files mounts seen × (512 < length seen.rules.items)
+HasManyRules root files = (mounts : List Row) × (seen : Seen) × IsSurveyed root files mounts seen × (most_rules < length seen.rules.items)
 
 -- there are not too many rules, and too many secrets
 abbrev pub HasManySecrets : (root : Text) → Files → Type 0
 HasManySecrets root files =
-    (mounts : List Row) × (seen : Seen) × IsSurveyed root files mounts seen × (length seen.rules.items ≤ 512) × (8192 < length seen.names.items)
+    (mounts : List Row) × (seen : Seen) × IsSurveyed root files mounts seen × (length seen.rules.items ≤ most_rules) × (most_secrets < length seen.names.items)
 
 -- there are not too many of either, and a rule file is bad
 abbrev pub HasBadRule : (root : Text) → Files → (path : Text) → ℕ → Type 0
 HasBadRule root files path line =
-    (mounts : List Row) × (seen : Seen) × IsSurveyed root files mounts seen × (length seen.rules.items ≤ 512) × (length seen.names.items ≤ 8192)
+    (mounts : List Row) × (seen : Seen) × IsSurveyed root files mounts seen × (length seen.rules.items ≤ most_rules) × (length seen.names.items ≤ most_secrets)
     × (folder : Text) × Contains seen.rules.items folder × IsBadThere root files mounts folder path line
 
 -- what is found, or the first of these that refuses it

@@ -9,13 +9,14 @@ use Rattle.pending_journal.specs.Service.{without_service}
 use Rattle.recipient_files.specs.Ids.{Ids}
 use Rattle.recipient_files.specs.RuleText.{BadLine, IsRule, first_bad_line}
 use Rattle.path_rules.specs.RuleMap.{RuleMap, rule_at}
+use Rattle.store_state.specs.Limits.{most_rule_bytes}
 use Rattle.store_state.specs.declared.fault.StoreFault.{StoreFault}
 use Rattle.store_state.specs.declared.fault.StoreFault.TheVariants.{BadFile, Full, Disk, NoMemory}
 use Rattle.store_state.specs.Places.{rule_path}
 
--- a rule file that reads: at most 65,536 bytes, whose ids are this set
+-- a rule file that reads: it is not too long, and its ids are this set
 pub record IsRuleFile (bytes : Text) (ids : Ids) : Type 0 where
-  pub short : length bytes ≤ 65536
+  pub short : length bytes ≤ most_rule_bytes
   pub rule : IsRule ids bytes
 
 -- the rule of a folder, by what lies at its file
@@ -24,11 +25,11 @@ IsRuleOf None rule = rule ≡ None
 IsRuleOf (Some bytes) (Some ids) = IsRuleFile bytes ids
 IsRuleOf (Some bytes) None = ⊥
 
--- the first bad line of a rule file; 0 where it has more than 65,536 bytes
+-- the first bad line of a rule file; 0 where it has more bytes than it may
 abbrev pub IsBadRule : Text → ℕ → Type 0
 IsBadRule bytes line =
-    ((length bytes ≤ 65536) × (bad : BadLine) × (first_bad_line bytes ≡ Some bad) × (line ≡ bad.line))
-    ⊎ ((65536 < length bytes) × (line ≡ 0))
+    ((length bytes ≤ most_rule_bytes) × (bad : BadLine) × (first_bad_line bytes ≡ Some bad) × (line ≡ bad.line))
+    ⊎ ((most_rule_bytes < length bytes) × (line ≡ 0))
 
 -- the rule of a folder, by what lies at its file in its mount
 abbrev pub IsRuleThere : (root : Text) → Files → List Row → (folder : Text) → Option Ids → Type 0

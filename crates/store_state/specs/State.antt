@@ -14,6 +14,8 @@ use Rattle.disk_model.specs.Listing.{has_git}
 use Rattle.pending_journal.specs.Service.{is_service}
 use Rattle.cipher_port.specs.Tool.{Content, Opens}
 use Rattle.path_rules.specs.RuleMap.{RuleMap, rule_at}
+use Rattle.path_rules.specs.Limits.{most_rules}
+use Rattle.store_state.specs.Limits.{most_secrets}
 use Rattle.store_state.specs.Places.{secret_path, rule_path, template_path, IsFolderOf}
 use Rattle.store_state.specs.RuleFiles.{IsRuleOf}
 use Rattle.store_state.specs.Found.{GivesStrange, GivesShadowed}
@@ -99,11 +101,11 @@ pub record ApartStand (root : Text) (files : Files) (state : State) : Type 0 whe
   pub shadowed : IsOfFiles GivesShadowed root files state.mounts (length state.mounts) state.shadowed
   pub shadowed_rise : IsRising state.shadowed
 
--- the store opens: it has no pending file, at most 512 rules and at most 8,192 secrets
+-- the store opens: it has no pending file, and not too many rules or secrets
 pub record KeepsLimits (root : Text) (files : Files) (state : State) : Type 0 where
   pub no_pending : files (pending_path root) ≡ None
-  pub few_rules : map.len state.rules ≤ 512
-  pub few_secrets : map.len state.rows ≤ 8192
+  pub few_rules : map.len state.rules ≤ most_rules
+  pub few_secrets : map.len state.rows ≤ most_secrets
 
 -- the files stand for the state: its mounts are those of the mounts file, and so are its other parts by what lies there;
 -- the numbers of files are those of its mounts, and it is a state of a store that opens

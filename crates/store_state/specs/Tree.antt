@@ -6,6 +6,7 @@ use Rattle.gopass_base.specs.declared.service.ServiceFile.TheVariants.{Mounts, P
 use Rattle.disk_model.specs.Files.{Files}
 use Rattle.disk_model.specs.Listing.{IsListing}
 use Rattle.pending_journal.specs.Service.{without_service}
+use Rattle.store_state.specs.Limits.{most_files}
 use Rattle.store_state.specs.declared.tree.Own.{Own}
 
 -- the path of the mounts file, or that of the pending file
@@ -25,11 +26,11 @@ pub record IsOwnOf (root : Text) (own : Own) : Type 0 where
   pub mounts_is : own.mounts ≡ path_in root (service_text Mounts)
   pub pending_is : own.pending ≡ path_in root (service_text Pending)
 
--- the paths below a directory, where there are at most 40,000
+-- the paths below a directory, where they are not too many
 pub record IsTree (root : Text) (files : Files) (dir : Text) (paths : List Text) : Type 0 where
   pub listing : IsListing (tree_files root files) dir paths
-  pub few : length paths ≤ 40000
+  pub few : length paths ≤ most_files
 
--- there are more than 40,000
+-- they are too many
 abbrev pub IsFullTree : Text → Files → Text → Type 0
-IsFullTree root files dir = (paths : List Text) × IsListing (tree_files root files) dir paths × (40000 < length paths)
+IsFullTree root files dir = (paths : List Text) × IsListing (tree_files root files) dir paths × (most_files < length paths)

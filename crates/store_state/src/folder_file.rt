@@ -1,7 +1,7 @@
 //! The files that a folder of the store has of its own: its rule and its template.
 
 ghost use Rattle.std.specs.Prelude.{◌≡◌, ℕ, IfOk, string_bytes};
-ghost use Rattle.mount_table.specs.Mounts.{IsMountOfFolder};
+ghost use Rattle.mount_table.specs.Mounts.{IsMountOfFolder, IsTable, root_of};
 ghost use Rattle.gopass_base.specs.Paths.{path_in};
 ghost use Rattle.mount_table.specs.Prefixes.{IsPrefix, folder_parts};
 ghost use Rattle.mount_table.specs.Folders.{IsFolder};
@@ -44,7 +44,8 @@ pub(crate) fn in_folder(alloc: Global, folder: &str, rest: &str) -> Result<Strin
 fn file_below(alloc: Global, row: &Row, folder: &Folder, file: &str) -> Result<FilePath, NoMemory>
     requires reaches { IsPrefix (folder_parts row.now.alias) (folder_parts folder.now) }
     requires file { IsFolderFile file.now }
-    ensures { IfOk result (λ path. path ≡ path_in row.now.dir (in_folder (folder_rest row.now.alias folder.now) file.now)) }
+    ensures path { IfOk result (λ path. path ≡ path_in row.now.dir (in_folder (folder_rest row.now.alias folder.now) file.now)) }
+    ensures good { IsFolder folder.now }
 {
     let rest = rest_below(row.alias.text(), folder.text());
     row.dir.file_at(alloc, &in_folder(alloc, rest, file)?)
@@ -55,9 +56,6 @@ pub fn rule_file_of(alloc: Global, mounts: &Mounts, folder: &Folder) -> Result<F
     ensures path { IfOk result (λ path. path ≡ rule_path mounts.now (folder_mount mounts.now folder.now) folder.now) }
     ensures good { IsFolder folder.now }
 {
-    // The folder is one, and the mounts are a table, in which it has one mount.
-    let _ = folder.text();
-    let _ = mounts.rows();
     folder_file(alloc, mounts, folder, ".gpg-id")
 }
 
@@ -70,9 +68,6 @@ pub fn template_file_of(
     ensures path { IfOk result (λ path. path ≡ template_path mounts.now (folder_mount mounts.now folder.now) folder.now) }
     ensures good { IsFolder folder.now }
 {
-    // The folder is one, and the mounts are a table, in which it has one mount.
-    let _ = folder.text();
-    let _ = mounts.rows();
     folder_file(alloc, mounts, folder, ".pass-template")
 }
 
@@ -86,7 +81,9 @@ pub(crate) fn folder_file(
     file: &str,
 ) -> Result<FilePath, NoMemory>
     requires { IsFolderFile file.now }
-    ensures { IfOk result (λ path. (k : ℕ) × IsMountOfFolder mounts.now folder.now k × (path ≡ folder_path mounts.now k folder.now file.now)) }
+    ensures path { IfOk result (λ path. (k : ℕ) × IsMountOfFolder mounts.now folder.now k × (path ≡ folder_path mounts.now k folder.now file.now)) }
+    ensures good { IsFolder folder.now }
+    ensures table { IsTable (root_of mounts.now) mounts.now }
 {
     let rows = mounts.rows();
     file_below(alloc, &rows[mounts.resolve_folder(folder)], folder, file)

@@ -1,17 +1,18 @@
 //! What an opening finds.
 
-ghost use Rattle.std.specs.Prelude.{◌≡◌, ◌≢◌, ◌≤◌, false, Some, Err, length, IfOk, MatchBool};
+ghost use Rattle.std.specs.Prelude.{◌≡◌, ◌≢◌, ◌≤◌, Some, Err, length, ⊤, IfOk, OnErr, IsFalse, MatchBool};
 ghost use Rattle.gopass_base.specs.Faults.{Costs, HasCause};
 ghost use Rattle.mount_table.specs.Mounts.{root_of};
-ghost use Rattle.disk_model.specs.Disk.{Rests};
 ghost use Rattle.disk_model.specs.Answers.{Reads, IsWithin};
-ghost use Rattle.pending_journal.specs.Opened.{IsSameVault};
-ghost use Rattle.pending_journal.specs.Service.{is_service, without_service};
+ghost use Rattle.disk_model.specs.Disk.{AsksUpTo};
+ghost use Rattle.pending_journal.specs.Opened.{OnlyReads};
+ghost use Rattle.pending_journal.specs.Service.{without_service};
+ghost use Rattle.store_state.specs.Limits.{most_mounts_bytes};
 ghost use Rattle.store_state.specs.Tree.{IsOwnOf};
 ghost use Rattle.store_state.specs.State.{mounts_path, pending_path};
 ghost use Rattle.store_state.specs.Order.{IsOrdered};
 ghost use Rattle.store_state.specs.Found.{IsSameSeen};
-ghost use Rattle.store_state.specs.Opening.{IsWithinLimits, OpensStore, TellsMounts, TellsPending};
+ghost use Rattle.store_state.specs.Opening.{IsWithinLimits, OpensStore, TellsMounts, TellsPending, most_opening_calls, opening_calls};
 
 use crate::fault::{Limit, StoreFault};
 use crate::rule_files::read_rules;
@@ -38,7 +39,7 @@ fn mounts_of(
     bytes: &[u8],
 ) -> Result<Mounts, StoreFault>
     requires { path.now ≡ mounts_path root.now }
-    ensures mounts { length bytes.now ≤ 131072 → TellsMounts root.now (Some bytes.now) result }
+    ensures mounts { length bytes.now ≤ most_mounts_bytes → TellsMounts root.now (Some bytes.now) result }
     ensures rooted { IfOk result (λ mounts. root_of mounts ≡ root.now) }
     ensures no_disk { result ≢ Err StoreFault.Disk }
 {
@@ -51,11 +52,12 @@ fn mounts_of(
 
 /// The mounts file, where it has at most 131,072 bytes.
 fn mounts_file<D: Disk>(vault: &mut Vault<D>, own: &Own) -> Result<Got, DiskFault>
-    ensures kept { IsSameVault vault.old vault.new }
-    ensures rests { D.meaning.tells → Rests (D.meaning.view vault.old.disk) (D.meaning.view vault.new.disk) }
-    ensures got { IfOk result (λ got. D.meaning.tells → Reads (without_service vault.old.root (D.meaning.view vault.old.disk).files own.now.mounts) 131072 got) }
-    ensures bound { IfOk result (IsWithin 131072) }
-    ensures costs { Costs 1 (D.meaning.calls vault.old.disk) (D.meaning.calls vault.new.disk) (is_service vault.old.root own.now.mounts ≡ false) }
+    requires { IsOwnOf vault.old.root own.now }
+    ensures only_reads { OnlyReads vault.old vault.new }
+    ensures got { IfOk result (λ got. D.meaning.tells → Reads (without_service vault.old.root (D.meaning.view vault.old.disk).files own.now.mounts) most_mounts_bytes got) }
+    ensures bound { IfOk result (IsWithin most_mounts_bytes) }
+    ensures costs { Costs 1 (D.meaning.calls vault.old.disk) (D.meaning.calls vault.new.disk) ⊤ }
+    ensures asks { AsksUpTo most_mounts_bytes (D.meaning.asked vault.old.disk) (D.meaning.asked vault.new.disk) }
     ensures cause { HasCause (D.meaning.faults vault.old.disk) (D.meaning.faults vault.new.disk) (result ≡ Err DiskFault.Failed) }
 {
     vault.read(&own.mounts, MOST_MOUNTS_BYTES)
@@ -70,10 +72,10 @@ fn read_mounts<D: Disk>(
 ) -> Result<Mounts, StoreFault>
     requires root { root.now ≡ vault.old.root }
     requires own { IsOwnOf vault.old.root own.now }
-    ensures kept { IsSameVault vault.old vault.new }
-    ensures rests { D.meaning.tells → Rests (D.meaning.view vault.old.disk) (D.meaning.view vault.new.disk) }
+    ensures only_reads { OnlyReads vault.old vault.new }
     ensures mounts { D.meaning.tells → TellsMounts root.now ((D.meaning.view vault.old.disk).files (mounts_path root.now)) result }
     ensures rooted { IfOk result (λ mounts. root_of mounts ≡ root.now) }
+    ensures costs { Costs 1 (D.meaning.calls vault.old.disk) (D.meaning.calls vault.new.disk) ⊤ }
     ensures cause { HasCause (D.meaning.faults vault.old.disk) (D.meaning.faults vault.new.disk) (result ≡ Err StoreFault.Disk) }
 {
     match mounts_file(vault, own)? {
@@ -92,11 +94,12 @@ fn is_there(got: &Got) -> bool
 
 /// The pending file, of which no byte is read.
 fn pending_file<D: Disk>(vault: &mut Vault<D>, own: &Own) -> Result<Got, DiskFault>
-    ensures kept { IsSameVault vault.old vault.new }
-    ensures rests { D.meaning.tells → Rests (D.meaning.view vault.old.disk) (D.meaning.view vault.new.disk) }
+    requires { IsOwnOf vault.old.root own.now }
+    ensures only_reads { OnlyReads vault.old vault.new }
     ensures got { IfOk result (λ got. D.meaning.tells → Reads (without_service vault.old.root (D.meaning.view vault.old.disk).files own.now.pending) 0 got) }
     ensures bound { IfOk result (IsWithin 0) }
-    ensures costs { Costs 1 (D.meaning.calls vault.old.disk) (D.meaning.calls vault.new.disk) (is_service vault.old.root own.now.pending ≡ false) }
+    ensures costs { Costs 1 (D.meaning.calls vault.old.disk) (D.meaning.calls vault.new.disk) ⊤ }
+    ensures asks { AsksUpTo 0 (D.meaning.asked vault.old.disk) (D.meaning.asked vault.new.disk) }
     ensures cause { HasCause (D.meaning.faults vault.old.disk) (D.meaning.faults vault.new.disk) (result ≡ Err DiskFault.Failed) }
 {
     vault.read(&own.pending, 0)
@@ -109,9 +112,9 @@ fn find_no_pending<D: Disk>(
     own: &Own,
 ) -> Result<(), StoreFault>
     requires { IsOwnOf vault.old.root own.now }
-    ensures kept { IsSameVault vault.old vault.new }
-    ensures rests { D.meaning.tells → Rests (D.meaning.view vault.old.disk) (D.meaning.view vault.new.disk) }
+    ensures only_reads { OnlyReads vault.old vault.new }
     ensures pending { D.meaning.tells → TellsPending vault.old.root ((D.meaning.view vault.old.disk).files (pending_path vault.old.root)) result }
+    ensures costs { Costs 1 (D.meaning.calls vault.old.disk) (D.meaning.calls vault.new.disk) ⊤ }
     ensures cause { HasCause (D.meaning.faults vault.old.disk) (D.meaning.faults vault.new.disk) (result ≡ Err StoreFault.Disk) }
 {
     let got = pending_file(vault, own)?;
@@ -171,10 +174,11 @@ fn survey_all<D: Disk>(
 ) -> Result<Found, StoreFault>
     requires root { root.now ≡ vault.old.root }
     requires own { IsOwnOf vault.old.root own.now }
-    ensures kept { IsSameVault vault.old vault.new }
-    ensures rests { D.meaning.tells → Rests (D.meaning.view vault.old.disk) (D.meaning.view vault.new.disk) }
+    ensures only_reads { OnlyReads vault.old vault.new }
     ensures opens { D.meaning.tells → OpensStore vault.old.root (D.meaning.view vault.old.disk).files result }
     ensures limits { IfOk result (IsWithinLimits vault.old.root) }
+    ensures costs { IsFalse vault.old.stuck → IfOk result (λ found. Costs (opening_calls found) (D.meaning.calls vault.old.disk) (D.meaning.calls vault.new.disk) ⊤) }
+    ensures few { IsFalse vault.old.stuck → OnErr result (Costs most_opening_calls (D.meaning.calls vault.old.disk) (D.meaning.calls vault.new.disk) ⊥) }
     ensures cause { HasCause (D.meaning.faults vault.old.disk) (D.meaning.faults vault.new.disk) (result ≡ Err StoreFault.Disk) }
 {
     let mounts = read_mounts(alloc, vault, root, own)?;
@@ -201,10 +205,11 @@ fn survey_all<D: Disk>(
 /// mounts file that does not read, a pending file, a mount with more than 40,000 files, more than 512
 /// rules, more than 8,192 secrets, a rule file that does not read.
 pub fn find<D: Disk>(alloc: Global, vault: &mut Vault<D>) -> Result<Found, StoreFault>
-    ensures kept { IsSameVault vault.old vault.new }
-    ensures rests { D.meaning.tells → Rests (D.meaning.view vault.old.disk) (D.meaning.view vault.new.disk) }
+    ensures only_reads { OnlyReads vault.old vault.new }
     ensures opens { D.meaning.tells → OpensStore vault.old.root (D.meaning.view vault.old.disk).files result }
     ensures limits { IfOk result (IsWithinLimits vault.old.root) }
+    ensures costs { IsFalse vault.old.stuck → IfOk result (λ found. Costs (opening_calls found) (D.meaning.calls vault.old.disk) (D.meaning.calls vault.new.disk) ⊤) }
+    ensures few { IsFalse vault.old.stuck → OnErr result (Costs most_opening_calls (D.meaning.calls vault.old.disk) (D.meaning.calls vault.new.disk) ⊥) }
     ensures cause { HasCause (D.meaning.faults vault.old.disk) (D.meaning.faults vault.new.disk) (result ≡ Err StoreFault.Disk) }
 {
     let root = vault.root().copy(alloc)?;

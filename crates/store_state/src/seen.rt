@@ -1,10 +1,10 @@
 //! What is found below the mounts of a store.
 
-ghost use Rattle.std.specs.Prelude.{◌≡◌, ◌<◌, ◌≤◌, [], length, All, IfOk, OnOk, Err};
-ghost use Rattle.gopass_base.specs.Faults.{HasCause};
+ghost use Rattle.std.specs.Prelude.{◌≡◌, ◌<◌, ◌≤◌, [], length, All, IsFalse, IsOk, IfOk, OnOk, Err};
+ghost use Rattle.gopass_base.specs.Faults.{Costs, HasCause};
 ghost use Rattle.mount_table.specs.Mounts.{row_at};
-ghost use Rattle.disk_model.specs.Disk.{Rests};
-ghost use Rattle.pending_journal.specs.Opened.{IsSameVault};
+ghost use Rattle.pending_journal.specs.Opened.{OnlyReads};
+ghost use Rattle.store_state.specs.Limits.{most_files};
 ghost use Rattle.store_state.specs.Faults.{GivesOrFull};
 ghost use Rattle.store_state.specs.Tree.{IsFullTree, IsOwnOf};
 ghost use Rattle.store_state.specs.Survey.{IsFullMount, IsMountSeen, IsSurvey};
@@ -128,11 +128,11 @@ fn add_mount<D: Disk>(
 ) -> Result<usize, StoreFault>
     requires inside { row < length mounts.now }
     requires own { IsOwnOf vault.old.root own.now }
-    ensures kept { IsSameVault vault.old vault.new }
-    ensures rests { D.meaning.tells → Rests (D.meaning.view vault.old.disk) (D.meaning.view vault.new.disk) }
+    ensures only_reads { OnlyReads vault.old vault.new }
     ensures lists { D.meaning.tells → GivesOrFull (λ count. IsMountSeen vault.old.root (D.meaning.view vault.old.disk).files mounts.now row seen.old seen.new count)
         (IsFullTree vault.old.root (D.meaning.view vault.old.disk).files (row_at mounts.now row).dir) result }
-    ensures bound { IfOk result (λ count. count ≤ 40000) }
+    ensures bound { IfOk result (λ count. count ≤ most_files) }
+    ensures costs { IsFalse vault.old.stuck → Costs 1 (D.meaning.calls vault.old.disk) (D.meaning.calls vault.new.disk) (IsOk result) }
     ensures cause { HasCause (D.meaning.faults vault.old.disk) (D.meaning.faults vault.new.disk) (result ≡ Err StoreFault.Disk) }
 {
     let rows = mounts.rows();
@@ -149,11 +149,11 @@ pub(crate) fn survey<D: Disk>(
     mounts: &Mounts,
 ) -> Result<(Seen, Vec<usize>), StoreFault>
     requires { IsOwnOf vault.old.root own.now }
-    ensures kept { IsSameVault vault.old vault.new }
-    ensures rests { D.meaning.tells → Rests (D.meaning.view vault.old.disk) (D.meaning.view vault.new.disk) }
+    ensures only_reads { OnlyReads vault.old vault.new }
     ensures lists { D.meaning.tells → GivesOrFull (λ found. IsSurvey vault.old.root (D.meaning.view vault.old.disk).files mounts.now found.0 found.1.items)
         (IsFullMount vault.old.root (D.meaning.view vault.old.disk).files mounts.now) result }
-    ensures bound { IfOk result (λ found. All (λ count. count ≤ 40000) found.1.items) }
+    ensures bound { IfOk result (λ found. All (λ count. count ≤ most_files) found.1.items) }
+    ensures costs { IsFalse vault.old.stuck → Costs (length mounts.now) (D.meaning.calls vault.old.disk) (D.meaning.calls vault.new.disk) (IsOk result) }
     ensures cause { HasCause (D.meaning.faults vault.old.disk) (D.meaning.faults vault.new.disk) (result ≡ Err StoreFault.Disk) }
 {
     let mut seen = Seen::new(alloc);

@@ -1,12 +1,13 @@
 //! The files below a mount's directory.
 
-ghost use Rattle.std.specs.Prelude.{◌≡◌, ◌≢◌, ◌<◌, ◌≤◌, length, ⊤, IfOk, IsFalse, Err};
+ghost use Rattle.std.specs.Prelude.{◌≡◌, ◌≢◌, ◌<◌, ◌≤◌, length, ⊤, IfOk, IsFalse, IsOk, Err};
 ghost use Rattle.gopass_base.specs.Faults.{Costs, HasCause};
 ghost use Rattle.gopass_base.specs.Paths.{path_in, service_text};
-ghost use Rattle.disk_model.specs.Disk.{Rests};
 ghost use Rattle.disk_model.specs.Listing.{Lists, IsShort};
-ghost use Rattle.pending_journal.specs.Opened.{IsSameVault};
+ghost use Rattle.disk_model.specs.Disk.{AsksUpTo};
+ghost use Rattle.pending_journal.specs.Opened.{OnlyReads};
 ghost use Rattle.pending_journal.specs.Service.{without_service};
+ghost use Rattle.store_state.specs.Limits.{most_files, most_listed};
 ghost use Rattle.store_state.specs.Tree.{IsFullTree, IsOwnOf, IsTree, others_than};
 ghost use Rattle.store_state.specs.Faults.{GivesOrFull};
 
@@ -62,7 +63,7 @@ fn not_own(own: &Own, paths: Vec<FilePath>) -> Vec<FilePath>
 
 /// The paths, where there are at most 40,000.
 fn few(paths: Vec<FilePath>) -> Result<Vec<FilePath>, StoreFault>
-    ensures few { GivesOrFull (λ few. (few.items ≡ paths.items) × (length few.items ≤ 40000)) (40000 < length paths.items) result }
+    ensures few { GivesOrFull (λ few. (few.items ≡ paths.items) × (length few.items ≤ most_files)) (most_files < length paths.items) result }
     ensures no_disk { result ≢ Err StoreFault.Disk }
 {
     if paths.len() > MOST_FILES {
@@ -74,11 +75,11 @@ fn few(paths: Vec<FilePath>) -> Result<Vec<FilePath>, StoreFault>
 /// The paths of all files below the directory but the vault's own, where there are at most 40,002: of
 /// the store's own there are two. It is one call of the disk.
 fn all_below<D: Disk>(vault: &mut Vault<D>, dir: &FilePath) -> Result<Listed, DiskFault>
-    ensures kept { IsSameVault vault.old vault.new }
-    ensures rests { D.meaning.tells → Rests (D.meaning.view vault.old.disk) (D.meaning.view vault.new.disk) }
-    ensures listed { IfOk result (λ listed. D.meaning.tells → Lists (without_service vault.old.root (D.meaning.view vault.old.disk).files) dir.now 40002 listed) }
-    ensures bound { IfOk result (IsShort 40002) }
+    ensures only_reads { OnlyReads vault.old vault.new }
+    ensures listed { IfOk result (λ listed. D.meaning.tells → Lists (without_service vault.old.root (D.meaning.view vault.old.disk).files) dir.now most_listed listed) }
+    ensures bound { IfOk result (IsShort most_listed) }
     ensures costs { IsFalse vault.old.stuck → Costs 1 (D.meaning.calls vault.old.disk) (D.meaning.calls vault.new.disk) ⊤ }
+    ensures asks { IsFalse vault.old.stuck → AsksUpTo most_listed (D.meaning.asked vault.old.disk) (D.meaning.asked vault.new.disk) }
     ensures cause { HasCause (D.meaning.faults vault.old.disk) (D.meaning.faults vault.new.disk) (result ≡ Err DiskFault.Failed) }
 {
     vault.list(dir, MOST_FILES + 2)
@@ -92,11 +93,11 @@ pub(crate) fn list_tree<D: Disk>(
     dir: &DirPath,
 ) -> Result<Vec<FilePath>, StoreFault>
     requires { IsOwnOf vault.old.root own.now }
-    ensures kept { IsSameVault vault.old vault.new }
-    ensures rests { D.meaning.tells → Rests (D.meaning.view vault.old.disk) (D.meaning.view vault.new.disk) }
+    ensures only_reads { OnlyReads vault.old vault.new }
     ensures lists { D.meaning.tells → GivesOrFull (λ paths. IsTree vault.old.root (D.meaning.view vault.old.disk).files dir.now paths.items)
         (IsFullTree vault.old.root (D.meaning.view vault.old.disk).files dir.now) result }
-    ensures bound { IfOk result (λ paths. length paths.items ≤ 40000) }
+    ensures bound { IfOk result (λ paths. length paths.items ≤ most_files) }
+    ensures costs { IsFalse vault.old.stuck → Costs 1 (D.meaning.calls vault.old.disk) (D.meaning.calls vault.new.disk) (IsOk result) }
     ensures cause { HasCause (D.meaning.faults vault.old.disk) (D.meaning.faults vault.new.disk) (result ≡ Err StoreFault.Disk) }
 {
     let path = path_of(alloc, dir)?;

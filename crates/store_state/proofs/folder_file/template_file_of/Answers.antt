@@ -11,7 +11,7 @@ pub returns-clause-path : goal.returns-clause-path
 returns-clause-path c =
     let mounts = c.args.mounts.now in
     let folder = c.args.folder.now in
-    let table = c.rows.ensures.table in
+    let table = c.folder_file.ensures.table in
     IfOk-weaker c.folder_file.result (λ (path : Text). (k : ℕ) × IsMountOfFolder mounts folder k × (path ≡ folder_path mounts k folder template_file)) (λ (path : Text). path ≡ template_path mounts (folder_mount mounts folder) folder)
     (λ path (k, own, is). is ∙ ap (λ n. folder_path mounts n folder template_file) (one_folder_row (root_of mounts) folder mounts k (folder_mount mounts folder) table own (folder_computed (root_of mounts) folder mounts table)))
-    c.folder_file.ensures
+    c.folder_file.ensures.path
