@@ -29,7 +29,7 @@ use Rattle.store_core.specs.Edit.{Entry, IsWithin, edited, paths_in}
 use Rattle.store_core.specs.Elsewhere.{IsSameElsewhere}
 use Rattle.store_core.specs.Moment.{Moment}
 use Rattle.store_core.specs.Plans.{Done, answers}
-use Rattle.store_core.specs.Performs.{Goes, LeftFor, IsPassed}
+use Rattle.store_core.specs.Performs.{Goes, IsPassed, KeepsElsewhere, LeftFor}
 use Rattle.store_core.proofs.PerformLemmas.{goes_still, stands_at_rest, still_same}
 use Rattle.store_core.proofs.EditLemmas.{edited_apart, edited_files, edited_stands, plain_places, same_mounts}
 use Rattle.store_core.proofs.StepLemmas.{nearly_from, nearly_stands}
@@ -38,39 +38,39 @@ use Rattle.store_core.proofs.StepLemmas.{nearly_from, nearly_stands}
 
 module _ (opens : Opens) (root : Text) (start next : State) (old new : Moment) (after : Files) (s : StandsFor opens root old.view.files start) (t : StandsFor opens root after next)
     (at_rest : IsAtRest root old.view) (run : Leaves (IsBeforeOrAfter root old.view.files after) old.view new.view) where
-  passed : (m : Files) → IsBeforeOrAfter root old.view.files after m → IsPassed opens root start (next ∷ []) m
+  passed : (m : Files) → IsBeforeOrAfter root old.view.files after m → IsPassed (StandsFor opens root) root start (next ∷ []) m
   passed m (inl before) = (0, omega arith, (old.view.files, before, s))
   passed m (inr made) = (1, omega arith, (after, made, t))
 
-  reached : (m : Files) → IsBeforeOrAfter root old.view.files after m → LeftFor opens root start m ⊎ ((0 < length (next ∷ [])) × LeftFor opens root next m)
+  reached : (m : Files) → IsBeforeOrAfter root old.view.files after m → LeftFor (StandsFor opens root) root start m ⊎ ((0 < length (next ∷ [])) × LeftFor (StandsFor opens root) root next m)
   reached m (inl before) = inl (old.view.files, before, s)
   reached m (inr made) = inr (omega arith, (after, made, t))
 
   -- the edit was committed
-  pub goes_applied : ((path : Text) → is_service root path ≡ true → after path ≡ None) → IsDurable after new.view → new.commits ≡ counted old.commits → Goes opens root start (next ∷ []) 1 old new
+  pub goes_applied : ((path : Text) → is_service root path ≡ true → after path ≡ None) → IsDurable after new.view → new.commits ≡ counted old.commits → Goes (StandsFor opens root) root start (next ∷ []) 1 old new
   goes_applied none made count = record {
     within = omega arith;
     counted = record { least = omega (arith, count); most = omega (arith, count) };
     state = λ free. subst (λ (f : Files). StandsFor opens root f next) (sym made.files) t;
-    any_moment = leaves_weaken (IsBeforeOrAfter root old.view.files after) (IsPassed opens root start (next ∷ [])) old.view new.view passed run;
+    any_moment = leaves_weaken (IsBeforeOrAfter root old.view.files after) (IsPassed (StandsFor opens root) root start (next ∷ [])) old.view new.view passed run;
     at_end = λ m im. inl (after, subst (λ (f : Files). RecoversTo root f after) (sym (made.only m im)) (stands_at_rest root after none), t);
     still = λ e free. absurd (omega (arith, e));
   }
 
   -- or failed
-  pub goes_failed : new.commits ≡ old.commits → new.stuck ≡ true → Goes opens root start (next ∷ []) 0 old new
+  pub goes_failed : new.commits ≡ old.commits → new.stuck ≡ true → Goes (StandsFor opens root) root start (next ∷ []) 0 old new
   goes_failed count stuck = record {
     within = omega arith;
     counted = record { least = omega (arith, count); most = omega (arith, count) };
     state = λ free. absurd (false≢true (sym free ∙ stuck));
-    any_moment = leaves_weaken (IsBeforeOrAfter root old.view.files after) (IsPassed opens root start (next ∷ [])) old.view new.view passed run;
+    any_moment = leaves_weaken (IsBeforeOrAfter root old.view.files after) (IsPassed (StandsFor opens root) root start (next ∷ [])) old.view new.view passed run;
     at_end = λ m im. reached m (run.now m im);
     still = λ e free. absurd (false≢true (sym free ∙ stuck));
   }
 
 -- nothing was begun
-pub goes_same : (opens : Opens) (root : Text) (start : State) (states : List State) (m : Moment) → StandsFor opens root m.view.files start → IsAtRest root m.view → Goes opens root start states 0 m m
-goes_same opens root start states m s rest = goes_still opens root start (λ events. answers (Done [])) m m s (still_same root m rest) states
+pub goes_same : (opens : Opens) (root : Text) (start : State) (states : List State) (m : Moment) → StandsFor opens root m.view.files start → IsAtRest root m.view → Goes (StandsFor opens root) root start states 0 m m
+goes_same opens root start states m s rest = goes_still (StandsFor opens root) root start (λ events. answers (Done [])) m m s (still_same root m rest) states
 
 -- the cause of a fault, by that of the commit
 pub fault_caused : (commit : CommitFault) (fault : ApplyFault) (before now : ℕ) → IsFaultOf commit fault → HasCause before now (commit ≡ CommitDisk) → HasCause before now (◌≡◌ {A = Result (Unit {0}) ApplyFault} (Err fault) (Err ApplyDisk))
@@ -84,12 +84,20 @@ fault_caused CommitNoMemory fault before now is cause = record { later = cause.l
 -- ---- the files
 
 -- each other file is as it was
-pub applied_elsewhere : (root : Text) (mounts : List Row) (entries : List Entry) (old new : View) → Leaves (IsBeforeOrAfter root old.files (edited_files mounts entries old.files)) old new → Leaves (IsSameElsewhere root (paths_in mounts entries) old.files) old new
-applied_elsewhere root mounts entries old new run = leaves_weaken (IsBeforeOrAfter root old.files (edited_files mounts entries old.files)) (IsSameElsewhere root (paths_in mounts entries) old.files) old new each run
-  where
-    each : (m : Files) → IsBeforeOrAfter root old.files (edited_files mounts entries old.files) m → IsSameElsewhere root (paths_in mounts entries) old.files m
-    each m (inl before) = (old.files, before, λ other apart. refl)
-    each m (inr made) = (edited_files mounts entries old.files, made, λ other apart. edited_apart mounts entries old.files other apart)
+module _ (root : Text) (mounts : List Row) (entries : List Entry) (old new : Moment) (run : Leaves (IsBeforeOrAfter root old.view.files (edited_files mounts entries old.view.files)) old.view new.view) where
+  applied_elsewhere : Leaves (IsSameElsewhere root (paths_in mounts entries) old.view.files) old.view new.view
+  applied_elsewhere = leaves_weaken (IsBeforeOrAfter root old.view.files (edited_files mounts entries old.view.files)) (IsSameElsewhere root (paths_in mounts entries) old.view.files) old.view new.view each run
+    where
+      each : (m : Files) → IsBeforeOrAfter root old.view.files (edited_files mounts entries old.view.files) m → IsSameElsewhere root (paths_in mounts entries) old.view.files m
+      each m (inl before) = (old.view.files, before, λ other apart. refl)
+      each m (inr made) = (edited_files mounts entries old.view.files, made, λ other apart. edited_apart mounts entries old.view.files other apart)
+
+  -- where the edit was committed, and where that failed
+  pub made_elsewhere : new.view.files ≡ edited_files mounts entries old.view.files → KeepsElsewhere root (paths_in mounts entries) old new
+  made_elsewhere made = record { images = applied_elsewhere; files = λ free other apart. ap (λ (f : Files). f other) made ∙ edited_apart mounts entries old.view.files other apart }
+
+  pub stuck_elsewhere : new.stuck ≡ true → KeepsElsewhere root (paths_in mounts entries) old new
+  stuck_elsewhere stuck = record { images = applied_elsewhere; files = λ free other apart. absurd (false≢true (sym free ∙ stuck)) }
 
 -- none of the vault's own is there
 pub edited_none : (root : Text) (mounts : List Row) (entries : List Entry) (files : Files) → IsTable root mounts → AreGood entries → ((path : Text) → is_service root path ≡ true → files path ≡ None) → (path : Text) → is_service root path ≡ true → edited_files mounts entries files path ≡ None

@@ -1,5 +1,5 @@
 -- A command that makes one edit does what is planned.
-use Rattle.std.proofs.Common.{◌≡◌, inl, inr, ⊎_elim, ℕ, ◌+◌, ◌≤◌, List, [], ◌∷◌, length, take, Some, None, refl, ap, sym, subst, arith}
+use Rattle.std.proofs.Common.{◌≡◌, inl, inr, ⊎_elim, ℕ, ◌+◌, ◌≤◌, List, [], ◌∷◌, length, take, Some, None, refl, ap, sym, ◌∙◌, subst, arith}
 use Rattle.std.specs.Prelude.{IsFalse, OnOk, Result, Ok, Err}
 use Rattle.gopass_base.specs.Text.{Text}
 use Rattle.gopass_base.specs.Faults.{HasCause, Rose}
@@ -10,9 +10,10 @@ use Rattle.pending_journal.specs.Redo.{RecoversTo}
 use Rattle.cipher_port.specs.Tool.{Opens}
 use Rattle.store_state.specs.State.{State, StandsFor}
 use Rattle.store_core.specs.Elsewhere.{IsSameElsewhere}
-use Rattle.store_core.specs.Events.{Events, calm, Cause, TheDisk, Memory}
+use Rattle.store_core.specs.Events.{Events, calm, Cause, TheDisk, Memory, Stop}
 use Rattle.store_core.specs.Moment.{Moment, Tools, moment_of}
-use Rattle.store_core.specs.Plans.{Outcome, Done, Plan, outcome_by}
+use Rattle.store_core.specs.Plans.{Done, Plan, commits, outcome_by}
+use Rattle.store_core.specs.Steps.{answer_up_to, just, stop_outcome}
 use Rattle.mount_table.specs.declared.mounts.Row.{Row}
 use Rattle.disk_model.specs.declared.disk.Disk.{Ghosts}
 use Rattle.cipher_port.specs.Tool.{Ring}
@@ -23,26 +24,26 @@ use Rattle.store_core.specs.Applying.{made_by}
 use Rattle.store_core.specs.Does.{AreCaused, Keeps}
 use Rattle.store_core.specs.Edit.{Entry, edited, paths_in}
 use Rattle.store_core.specs.Refusals.{as_refused}
-use Rattle.store_core.specs.Performs.{IsTied, Goes, IsPassed, Performs, stop_outcome}
-use Rattle.store_core.proofs.PerformLemmas.{calm_tied, rests_elsewhere, stands_at_rest, Still, stopped_tied}
+use Rattle.store_core.specs.Performs.{Goes, IsPassed, KeepsElsewhere, Performs, Walks}
+use Rattle.store_core.proofs.PerformLemmas.{Still, Ties, calm_tied, just_stopped, rests_elsewhere, stands_at_rest, stopped_tied}
 
 -- a moment as an edit sees it, which asks no tool
 abbrev pub plain : Moment → Moment
 plain m = record { view = m.view; faults = record { disk = m.faults.disk; tools = 0 }; calls = 0; commits = m.commits; stuck = m.stuck }
 
-module _ (opens : Opens) (root : Text) (start next : State) (plan : Events → Plan) (old mid new : Moment) (paths : List Text) (s : StandsFor opens root old.view.files start) (still : Still root old mid)
-    (elsewhere : Leaves (IsSameElsewhere root paths mid.view.files) mid.view new.view) where
-  passed_at_rest : (m : Files) → mid.view.images m → IsPassed opens root start (next ∷ []) m
+module _ {S : Type 0} (Stands : Files → S → Type 0) (root : Text) (start next : S) (plan : Events → Plan S) (old mid new : Moment) (paths : List Text) (s : Stands old.view.files start) (still : Still root old mid)
+    (elsewhere : KeepsElsewhere root paths (plain mid) (plain new)) where
+  passed_at_rest : (m : Files) → mid.view.images m → IsPassed Stands root start (next ∷ []) m
   passed_at_rest m im =
       (0, omega arith, (old.view.files, subst (λ (f : Files). RecoversTo root f old.view.files) (sym (still.at_rest.only m (still.rests.only m im))) (stands_at_rest root old.view.files still.at_rest.none), s))
 
   -- what came before the edit changed nothing
-  goes_since : (n : ℕ) → Goes opens root start (next ∷ []) n (plain mid) (plain new) → Goes opens root start (next ∷ []) n old new
+  goes_since : (n : ℕ) → Goes Stands root start (next ∷ []) n (plain mid) (plain new) → Goes Stands root start (next ∷ []) n old new
   goes_since n g = record {
     within = g.within;
     counted = record { least = omega (arith, g.counted.least, still.commits); most = omega (arith, g.counted.most, still.commits) };
     state = g.state;
-    any_moment = leaves_then (IsPassed opens root start (next ∷ [])) old.view mid.view new.view
+    any_moment = leaves_then (IsPassed Stands root start (next ∷ [])) old.view mid.view new.view
         (record {
           later = still.rests.time.later;
           now = passed_at_rest;
@@ -52,54 +53,60 @@ module _ (opens : Opens) (root : Text) (start next : State) (plan : Events → P
     still = λ e free. rests_then old.view mid.view new.view still.rests (g.still e free);
   }
 
-  leaves_elsewhere : Leaves (IsSameElsewhere root paths old.view.files) old.view new.view
-  leaves_elsewhere = leaves_then (IsSameElsewhere root paths old.view.files) old.view mid.view new.view (rests_elsewhere root paths old mid still)
-      (subst (λ (f : Files). Leaves (IsSameElsewhere root paths f) mid.view new.view) still.rests.files elsewhere)
+  all_elsewhere : KeepsElsewhere root paths old new
+  all_elsewhere = record {
+    images = leaves_then (IsSameElsewhere root paths old.view.files) old.view mid.view new.view (rests_elsewhere root paths old mid still).images
+        (subst (λ (f : Files). Leaves (IsSameElsewhere root paths f) mid.view new.view) still.rests.files elsewhere.images);
+    files = λ free other apart. elsewhere.files free other apart ∙ ap (λ (f : Files). f other) still.rests.files;
+  }
 
   -- the edit was made
-  pub edit_made : (events : Events) (said : Outcome) (calls : ℕ) → IsTied old.faults new.faults events None → new.calls ≤ old.calls + calls
-      → plan events ≡ record { outcome = said; states = next ∷ []; calls = calls; changes = paths; records = [] }
-      → Goes opens root start (next ∷ []) 1 (plain mid) (plain new) → Performs opens root plan start old new said
-  edit_made events said calls tied few is goes = record {
+  pub edit_made : (events : Events) (calls : ℕ) → Ties old.faults new.faults events None → new.calls ≤ old.calls + calls → plan events ≡ commits next calls paths
+      → Goes Stands root start (next ∷ []) 1 (plain mid) (plain new) → Performs Stands root plan start old new (just (Done []))
+  edit_made events calls ties few is goes = record {
     events = events;
     stop = None;
-    tied = tied;
-    is = sym (ap (λ (p : Plan). p.outcome) is);
-    goes = subst (λ (p : Plan). Goes opens root start p.states (length p.states) old new) (sym is) (goes_since 1 goes);
-    calls = omega (arith, few, ap (λ (p : Plan). p.calls) is);
-    elsewhere = subst (λ (p : Plan). Leaves (IsSameElsewhere root p.changes old.view.files) old.view new.view) (sym is) leaves_elsewhere;
+    tied = ties.tied;
+    is = sym (ap (answer_up_to None) is);
+    tells = λ name has. absurd (ties.none name has);
+    walks = subst (λ (p : Plan S). Walks Stands root start p None old new) (sym is) (record { stops = record { within = omega arith; one_open = omega arith }; goes = goes_since 1 goes });
+    calls = omega (arith, few, ap (λ (p : Plan S). p.calls) is);
+    elsewhere = subst (λ (p : Plan S). KeepsElsewhere root p.changes old new) (sym is) all_elsewhere;
   }
 
   -- it was not, or may have been made
-  pub edit_stopped : (cause : Cause) (said : Outcome) (calls : ℕ) → old.faults.tools ≤ new.faults.tools → (cause ≡ TheDisk → Rose old.faults.disk new.faults.disk) → new.calls ≤ old.calls + calls
-      → plan calm ≡ record { outcome = said; states = next ∷ []; calls = calls; changes = paths; records = [] }
-      → Goes opens root start (next ∷ []) 0 (plain mid) (plain new) → Performs opens root plan start old new (stop_outcome cause)
-  edit_stopped cause said calls later tie few is goes = record {
-    events = calm;
-    stop = Some (record { cause = cause; commits = 0 });
-    tied = stopped_tied old.faults new.faults cause later tie;
-    is = refl;
-    goes = subst (λ (p : Plan). Goes opens root start (take (0 + 1) p.states) 0 old new) (sym is) (goes_since 0 goes);
-    calls = omega (arith, few, ap (λ (p : Plan). p.calls) is);
-    elsewhere = subst (λ (p : Plan). Leaves (IsSameElsewhere root p.changes old.view.files) old.view new.view) (sym is) leaves_elsewhere;
-  }
+  pub edit_stopped : (cause : Cause) (calls : ℕ) → old.faults.tools ≤ new.faults.tools → (cause ≡ TheDisk → Rose old.faults.disk new.faults.disk) → new.calls ≤ old.calls + calls
+      → plan calm ≡ commits next calls paths → Goes Stands root start (next ∷ []) 0 (plain mid) (plain new) → Performs Stands root plan start old new (just (stop_outcome cause))
+  edit_stopped cause calls later tie few is goes =
+      let stop : Stop = record { cause = cause; steps = 1; commits = 0 } in
+      let ties = stopped_tied old.faults new.faults stop later tie in
+      record {
+        events = calm;
+        stop = Some stop;
+        tied = ties.tied;
+        is = just_stopped cause ∙ sym (ap (answer_up_to (Some stop)) is);
+        tells = λ name has. absurd (ties.none name has);
+        walks = subst (λ (p : Plan S). Walks Stands root start p (Some stop) old new) (sym is) (record { stops = record { within = omega arith; one_open = omega arith }; goes = goes_since 0 goes });
+        calls = omega (arith, few, ap (λ (p : Plan S). p.calls) is);
+        elsewhere = subst (λ (p : Plan S). KeepsElsewhere root p.changes old new) (sym is) all_elsewhere;
+      }
 
 -- both at once, by what the edit answered
-pub edit_performs : (opens : Opens) (root : Text) (start next : State) (plan : Events → Plan) (old mid new : Moment) (mounts : List Row) (edit : List Entry) (paths : List Text) (calls : ℕ) (r : Result (Unit {0}) ApplyFault)
+pub edit_performs : (opens : Opens) (root : Text) (start next : State) (plan : Events → Plan State) (old mid new : Moment) (mounts : List Row) (edit : List Entry) (paths : List Text) (calls : ℕ) (r : Result (Unit {0}) ApplyFault)
     → StandsFor opens root old.view.files start → Still root old mid
-    → plan calm ≡ record { outcome = Done []; states = next ∷ []; calls = calls; changes = paths; records = [] } → edited opens edit start ≡ next → paths_in mounts edit ≡ paths
+    → plan calm ≡ commits next calls paths → edited opens edit start ≡ next → paths_in mounts edit ≡ paths
     → old.faults.tools ≤ new.faults.tools → HasCause mid.faults.disk new.faults.disk (r ≡ Err ApplyDisk) → old.faults.disk ≤ mid.faults.disk → new.calls ≤ old.calls + calls
-    → Goes opens root start (edited opens edit start ∷ []) (made_by r) (plain mid) (plain new) → Leaves (IsSameElsewhere root (paths_in mounts edit) mid.view.files) mid.view new.view
-    → Performs opens root plan start old new (outcome_by (λ done. []) (as_refused r))
-edit_performs opens root start next plan old mid new mounts edit paths calls r s still is made same tools cause later few goes elsewhere = by r cause (subst (λ (x : State). Goes opens root start (x ∷ []) (made_by r) (plain mid) (plain new)) made goes)
+    → Goes (StandsFor opens root) root start (edited opens edit start ∷ []) (made_by r) (plain mid) (plain new) → KeepsElsewhere root (paths_in mounts edit) (plain mid) (plain new)
+    → Performs (StandsFor opens root) root plan start old new (just (outcome_by (λ done. []) (as_refused r)))
+edit_performs opens root start next plan old mid new mounts edit paths calls r s still is made same tools cause later few goes elsewhere = by r cause (subst (λ (x : State). Goes (StandsFor opens root) root start (x ∷ []) (made_by r) (plain mid) (plain new)) made goes)
   where
-    here : Leaves (IsSameElsewhere root paths mid.view.files) mid.view new.view
-    here = subst (λ (l : List Text). Leaves (IsSameElsewhere root l mid.view.files) mid.view new.view) same elsewhere
+    here : KeepsElsewhere root paths (plain mid) (plain new)
+    here = subst (λ (l : List Text). KeepsElsewhere root l (plain mid) (plain new)) same elsewhere
 
-    by : (r : Result (Unit {0}) ApplyFault) → HasCause mid.faults.disk new.faults.disk (r ≡ Err ApplyDisk) → Goes opens root start (next ∷ []) (made_by r) (plain mid) (plain new) → Performs opens root plan start old new (outcome_by (λ done. []) (as_refused r))
-    by (Ok done) cause goes = edit_made opens root start next plan old mid new paths s still here calm (Done []) calls (calm_tied old.faults new.faults tools) few is goes
-    by (Err ApplyDisk) cause goes = edit_stopped opens root start next plan old mid new paths s still here TheDisk (Done []) calls tools (λ e. (let rose = cause.failed refl in omega (arith, rose, later))) few is goes
-    by (Err ApplyNoMemory) cause goes = edit_stopped opens root start next plan old mid new paths s still here Memory (Done []) calls tools (λ e. absurd (cc)) few is goes
+    by : (r : Result (Unit {0}) ApplyFault) → HasCause mid.faults.disk new.faults.disk (r ≡ Err ApplyDisk) → Goes (StandsFor opens root) root start (next ∷ []) (made_by r) (plain mid) (plain new) → Performs (StandsFor opens root) root plan start old new (just (outcome_by (λ done. []) (as_refused r)))
+    by (Ok done) cause goes = edit_made (StandsFor opens root) root start next plan old mid new paths s still here calm calls (calm_tied old.faults new.faults tools) few is goes
+    by (Err ApplyDisk) cause goes = edit_stopped (StandsFor opens root) root start next plan old mid new paths s still here TheDisk calls tools (λ e. (let rose = cause.failed refl in omega (arith, rose, later))) few is goes
+    by (Err ApplyNoMemory) cause goes = edit_stopped (StandsFor opens root) root start next plan old mid new paths s still here Memory calls tools (λ e. absurd (cc)) few is goes
 
 -- and what holds told or not
 module _ {D : Type 0} {G : Ghosts D} (most : ℕ) (old new : Store D G) (before after : Tools) (tools : (moment_of new after).faults.tools ≡ (moment_of old before).faults.tools) (calls : after.calls ≤ before.calls + most)

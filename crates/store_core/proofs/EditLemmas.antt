@@ -25,7 +25,7 @@ use Rattle.store_state.proofs.NameLemmas.{no_service}
 use Rattle.store_state.proofs.RuleLemmas.{rule_path_differs, rule_no_service}
 use Rattle.store_state.proofs.SecretLemmas.{secret_paths_same}
 use Rattle.store_state.proofs.TemplateLemmas.{template_no_service}
-use Rattle.store_core.specs.Edit.{AreOfOne, Differ, Entry, IsApartFrom, OfSecret, OfRule, OfTemplate, edited, file_of_entry, paths_in, place, with_entry}
+use Rattle.store_core.specs.Edit.{AreOfOne, AreWritten, Differ, Entry, IsApartFrom, OfSecret, OfRule, OfTemplate, edited, file_of_entry, paths_in, place, with_entry}
 use Rattle.store_core.specs.Applying.{AreGood, AreIds, IsGood, Places, drops_of, places_of, puts_of}
 use Rattle.store_core.proofs.RuleStep.{rule_paths_same, rule_step}
 use Rattle.store_core.proofs.StepLemmas.{Nearly, step_stands}
@@ -148,6 +148,15 @@ edited_files mounts entries files = with_places (places_of mounts entries) files
 
 pub edited_apart : (mounts : List Row) (entries : List Entry) (files : Files) (path : Text) → ¬ Contains (paths_in mounts entries) path → edited_files mounts entries files path ≡ files path
 edited_apart mounts entries files path out = places_leave (places_of mounts entries) files path (λ has. out (subst (λ (l : List Text). Contains l path) (paths_same mounts entries) has))
+
+-- each file of theirs is as it is to be
+pub edited_written : (mounts : List Row) (entries : List Entry) (files : Files) → AreApart (places_of mounts entries) → AreWritten mounts entries (edited_files mounts entries files)
+unfolding with_places
+edited_written mounts [] files apart = tt
+edited_written mounts (entry ∷ entries) files apart =
+    let path = place mounts entry in
+    let file = file_of_entry entry in
+    (places_leave (places_of mounts entries) (put files path file) path apart.0 ∙ put_here files path file, edited_written mounts entries (put files path file) apart.1)
 
 -- ---- the state
 

@@ -21,6 +21,7 @@ use Rattle.store_core.specs.Edit.{has_secret}
 use Rattle.store_core.specs.Inserting.{IsUnruled, limit_by, MayPut, IsTested, SealsBody}
 use Rattle.store_core.specs.Performs.{Performs}
 use Rattle.store_core.specs.Plans.{Refused}
+use Rattle.store_core.specs.Steps.{just}
 use Rattle.store_state.proofs.KeyLemmas.{length-keys}
 use Rattle.store_state.proofs.AgreeLemmas.{mounts_agree, keys_agree, rules_agree, sizes_agree, row_agrees, among_keys}
 use Rattle.store_core.proofs.PerformLemmas.{Still}
@@ -61,8 +62,8 @@ module _ (opens : Opens) (root : Text) (files : Files) (found : Found) (state : 
 
 module _ (opens : Opens) (root : Text) (ring : Ring) (name body : Text) (force : Bool) (state : State) (old new : Moment) (stands : StandsFor opens root old.view.files state) (still : Still root old new) where
   pub insert_unruled : (ids : Option Ids) → governing_ids state.rules state.mounts name ≡ ids → (r : Refusal) → IsUnruled name ids r → new.calls ≤ old.calls
-      → Performs opens root (plan_insert ring name body force state) state old new (Refused r)
-  insert_unruled ids is (NoRule other) (same, none) few = subst (λ n. Performs opens root (plan_insert ring name body force state) state old new (Refused (NoRule n))) (sym same)
+      → Performs (StandsFor opens root) root (plan_insert ring name body force state) state old new (just (Refused r))
+  insert_unruled ids is (NoRule other) (same, none) few = subst (λ n. Performs (StandsFor opens root) root (plan_insert ring name body force state) state old new (just (Refused (NoRule n)))) (sym same)
       (insert_no_rule opens root ring name body force state old new stands still (is ∙ none) few)
   insert_unruled ids is NoMemory none few = insert_no_memory opens root ring name body force state old new stands still (omega (arith, few))
   insert_unruled ids is NotFound none few = absurd none
@@ -77,8 +78,8 @@ module _ (opens : Opens) (root : Text) (ring : Ring) (name body : Text) (force :
 
   module _ (ids : Ids) (ruled : governing_ids state.rules state.mounts name ≡ Some ids) where
     pub insert_tested : (there : Bool) (limit : Option Limit) → (not force && has_secret state name) ≡ (not force && there) → passed_by state name body ≡ limit → (r : Refusal) → MayPut name force there limit {T = Unit {0}} (Err r) → new.calls ≤ old.calls
-        → Performs opens root (plan_insert ring name body force state) state old new (Refused r)
-    insert_tested there limit way passed (Exists other) may few = subst (λ n. Performs opens root (plan_insert ring name body force state) state old new (Refused (Exists n))) (sym may.0)
+        → Performs (StandsFor opens root) root (plan_insert ring name body force state) state old new (just (Refused r))
+    insert_tested there limit way passed (Exists other) may few = subst (λ n. Performs (StandsFor opens root) root (plan_insert ring name body force state) state old new (just (Refused (Exists n)))) (sym may.0)
         (insert_in_the_way opens root ring name body force state old new stands still ids ruled (way ∙ may.1) few)
     insert_tested there limit way passed (Full kind) may few = insert_full opens root ring name body force state old new stands still ids ruled (way ∙ may.0) kind (passed ∙ may.1) few
     insert_tested there limit way passed (NoRule other) may few = absurd may
@@ -93,9 +94,9 @@ module _ (opens : Opens) (root : Text) (ring : Ring) (name body : Text) (force :
 
     module _ (fresh : (not force && has_secret state name) ≡ false) (room : passed_by state name body ≡ None) (few : new.calls ≤ old.calls + 1) where
       pub insert_unsealed : (r : Refusal) → SealsBody {A = Global} opens ring ids name body (Err r) → ((other : Text) → r ≡ Tool other → Rose old.faults.tools new.faults.tools)
-          → Performs opens root (plan_insert ring name body force state) state old new (Refused r)
+          → Performs (StandsFor opens root) root (plan_insert ring name body force state) state old new (just (Refused r))
       insert_unsealed (UnknownId id) (place, first, is) rose = insert_unknown opens root ring name body force state old new stands still ids ruled fresh room few place id first is
-      insert_unsealed (Tool other) same rose = subst (λ n. Performs opens root (plan_insert ring name body force state) state old new (Refused (Tool n))) (sym same)
+      insert_unsealed (Tool other) same rose = subst (λ n. Performs (StandsFor opens root) root (plan_insert ring name body force state) state old new (just (Refused (Tool n)))) (sym same)
           (insert_failed opens root ring name body force state old new stands still ids ruled fresh room few (rose other refl))
       insert_unsealed NoMemory is rose = insert_no_memory_then opens root ring name body force state old new stands still ids ruled fresh room few
       insert_unsealed (NoRule other) is rose = absurd is

@@ -15,6 +15,7 @@ use Rattle.store_state.specs.declared.fault.Limit.{Limit}
 use Rattle.store_core.specs.declared.refusal.Refusal.TheVariants.{Exists, NoRule, Full, UnknownId, Tool, NoMemory}
 use Rattle.store_state.specs.State.{State, StandsFor}
 use Rattle.store_core.specs.Plans.{Refused, Plan, answers, answers_by_tool}
+use Rattle.store_core.specs.Steps.{just}
 use Rattle.store_core.specs.Events.{Events, calm, refusing, TheDisk, Memory}
 use Rattle.store_core.specs.Moment.{Moment}
 use Rattle.store_core.specs.Performs.{Performs}
@@ -65,44 +66,44 @@ module _ (ring : Ring) (name body : Text) (force : Bool) (state : State) where
     calls_once fresh room = by (first_unknown ring ids) refl
       where
         by : (unknown : Option ℕ) → first_unknown ring ids ≡ unknown → (plan_insert ring name body force state calm).calls ≡ 1
-        by None is = ap (λ (p : Plan). p.calls) (plan_sealed None fresh room is)
-        by (Some place) is = ap (λ (p : Plan). p.calls) (plan_sealed (Some place) fresh room is)
+        by None is = ap (λ (p : Plan State). p.calls) (plan_sealed None fresh room is)
+        by (Some place) is = ap (λ (p : Plan State). p.calls) (plan_sealed (Some place) fresh room is)
 
 -- ---- the ways that change nothing
 
 module _ (opens : Opens) (root : Text) (ring : Ring) (name body : Text) (force : Bool) (state : State) (old new : Moment) (stands : StandsFor opens root old.view.files state) (still : Still root old new) where
   -- no rule governs the name
-  pub insert_no_rule : governing_ids state.rules state.mounts name ≡ None → new.calls ≤ old.calls → Performs opens root (plan_insert ring name body force state) state old new (Refused (NoRule name))
-  insert_no_rule none few = quiet opens root state (plan_insert ring name body force state) old new stands still calm (Refused (NoRule name)) 0 (calm_tied old.faults new.faults still.tools_later) (omega (arith, few))
+  pub insert_no_rule : governing_ids state.rules state.mounts name ≡ None → new.calls ≤ old.calls → Performs (StandsFor opens root) root (plan_insert ring name body force state) state old new (just (Refused (NoRule name)))
+  insert_no_rule none few = quiet (StandsFor opens root) root state (plan_insert ring name body force state) old new stands still calm (Refused (NoRule name)) 0 (calm_tied old.faults new.faults still.tools_later) (omega (arith, few))
       (plan_ruled ring name body force state calm None none)
 
   -- there was no memory
-  pub insert_no_memory : new.calls ≤ old.calls + (plan_insert ring name body force state calm).calls → Performs opens root (plan_insert ring name body force state) state old new (Refused NoMemory)
-  insert_no_memory few = quiet_stop opens root state (plan_insert ring name body force state) old new stands still Memory (λ e. absurd (cc)) few
+  pub insert_no_memory : new.calls ≤ old.calls + (plan_insert ring name body force state calm).calls → Performs (StandsFor opens root) root (plan_insert ring name body force state) state old new (just (Refused NoMemory))
+  insert_no_memory few = quiet_stop (StandsFor opens root) root state (plan_insert ring name body force state) old new stands still Memory (λ e. absurd (cc)) few
 
   module _ (ids : Ids) (ruled : governing_ids state.rules state.mounts name ≡ Some ids) where
     -- the secret stands in the way
-    pub insert_in_the_way : (not force && has_secret state name) ≡ true → new.calls ≤ old.calls → Performs opens root (plan_insert ring name body force state) state old new (Refused (Exists name))
-    insert_in_the_way way few = quiet opens root state (plan_insert ring name body force state) old new stands still calm (Refused (Exists name)) 0 (calm_tied old.faults new.faults still.tools_later) (omega (arith, few))
+    pub insert_in_the_way : (not force && has_secret state name) ≡ true → new.calls ≤ old.calls → Performs (StandsFor opens root) root (plan_insert ring name body force state) state old new (just (Refused (Exists name)))
+    insert_in_the_way way few = quiet (StandsFor opens root) root state (plan_insert ring name body force state) old new stands still calm (Refused (Exists name)) 0 (calm_tied old.faults new.faults still.tools_later) (omega (arith, few))
         (plan_by_way ring name body force state ids ruled calm true way)
 
     module _ (fresh : (not force && has_secret state name) ≡ false) where
       -- a limit would be passed
-      pub insert_full : (limit : Limit) → passed_by state name body ≡ Some limit → new.calls ≤ old.calls → Performs opens root (plan_insert ring name body force state) state old new (Refused (Full limit))
-      insert_full limit is few = quiet opens root state (plan_insert ring name body force state) old new stands still calm (Refused (Full limit)) 0 (calm_tied old.faults new.faults still.tools_later) (omega (arith, few))
+      pub insert_full : (limit : Limit) → passed_by state name body ≡ Some limit → new.calls ≤ old.calls → Performs (StandsFor opens root) root (plan_insert ring name body force state) state old new (just (Refused (Full limit)))
+      insert_full limit is few = quiet (StandsFor opens root) root state (plan_insert ring name body force state) old new stands still calm (Refused (Full limit)) 0 (calm_tied old.faults new.faults still.tools_later) (omega (arith, few))
           (plan_within ring name body force state ids ruled calm (Some limit) fresh is)
 
       module _ (room : passed_by state name body ≡ None) (few : new.calls ≤ old.calls + 1) where
         -- the tool failed
-        pub insert_failed : Rose old.faults.tools new.faults.tools → Performs opens root (plan_insert ring name body force state) state old new (Refused (Tool name))
-        insert_failed rose = quiet opens root state (plan_insert ring name body force state) old new stands still (refusing name) (Refused (Tool name)) 1 (refusing_tied old.faults new.faults name rose) few
+        pub insert_failed : Rose old.faults.tools new.faults.tools → Performs (StandsFor opens root) root (plan_insert ring name body force state) state old new (just (Refused (Tool name)))
+        insert_failed rose = quiet (StandsFor opens root) root state (plan_insert ring name body force state) old new stands still (refusing name) (Refused (Tool name)) 1 (refusing_tied old.faults new.faults name rose) few
             (plan_failed ring name body force state ids ruled fresh room)
 
         -- the tool does not know an id
-        pub insert_unknown : (place : ℕ) (id : Text) → first_unknown ring ids ≡ Some place → id ≡ slice_index_or ids place [] → Performs opens root (plan_insert ring name body force state) state old new (Refused (UnknownId id))
-        insert_unknown place id unknown same = quiet opens root state (plan_insert ring name body force state) old new stands still calm (Refused (UnknownId id)) 1 (calm_tied old.faults new.faults still.tools_later) few
+        pub insert_unknown : (place : ℕ) (id : Text) → first_unknown ring ids ≡ Some place → id ≡ slice_index_or ids place [] → Performs (StandsFor opens root) root (plan_insert ring name body force state) state old new (just (Refused (UnknownId id)))
+        insert_unknown place id unknown same = quiet (StandsFor opens root) root state (plan_insert ring name body force state) old new stands still calm (Refused (UnknownId id)) 1 (calm_tied old.faults new.faults still.tools_later) few
             (plan_sealed ring name body force state ids ruled (Some place) fresh room unknown ∙ ap (λ (t : Text). answers_by_tool (Refused (UnknownId t))) (sym same))
 
         -- there was no memory once the tool was called
-        pub insert_no_memory_then : Performs opens root (plan_insert ring name body force state) state old new (Refused NoMemory)
+        pub insert_no_memory_then : Performs (StandsFor opens root) root (plan_insert ring name body force state) state old new (just (Refused NoMemory))
         insert_no_memory_then = insert_no_memory (omega (arith, few, calls_once ring name body force state ids ruled fresh room))

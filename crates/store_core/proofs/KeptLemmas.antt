@@ -9,6 +9,7 @@ use Rattle.disk_model.proofs.FileLemmas.{cases_path}
 use Rattle.store_state.specs.declared.fault.Limit.{Limit}
 use Rattle.store_state.specs.State.{State, Cell, Sealed}
 use Rattle.store_core.specs.Plans.{Refused, answers, answers_by_tool}
+use Rattle.store_core.specs.Steps.{states_of}
 use Rattle.store_core.specs.Events.{Events, is_refused}
 use Rattle.store_core.specs.Insert.{with_cell, passed_by, insert_sealed, insert_within, insert_ruled, plan_insert}
 use Rattle.store_core.specs.Edit.{has_secret}
@@ -45,26 +46,26 @@ sealed_kept name body ids state ruled kept = record {
 
 module _ (ring : Ring) (name body : Text) (force : Bool) (state : State) (events : Events) (kept : IsKept state) where
   module _ (ids : Ids) (ruled : governing_ids state.rules state.mounts name ≡ Some ids) where
-    by_unknown : (unknown : Option ℕ) → AreAllKept (insert_sealed name body state ids unknown).states
+    by_unknown : (unknown : Option ℕ) → AreAllKept (states_of (insert_sealed name body state ids unknown).steps)
     by_unknown (Some place) = none_kept
     by_unknown None = one_kept (with_cell name (Sealed (made_of ids body)) state) (sealed_kept name body ids state ruled kept)
 
-    by_limit : (limit : Option Limit) → AreAllKept (insert_within ring name body state events ids limit).states
+    by_limit : (limit : Option Limit) → AreAllKept (states_of (insert_within ring name body state events ids limit).steps)
     by_limit (Some limit) = none_kept
-    by_limit None = elim (is_refused name events) as (λ b. AreAllKept (cond b (answers_by_tool (Refused (Tool name))) (insert_sealed name body state ids (first_unknown ring ids))).states) [
+    by_limit None = elim (is_refused name events) as (λ b. AreAllKept (states_of (cond b (answers_by_tool (Refused (Tool name))) (insert_sealed name body state ids (first_unknown ring ids))).steps)) [
       | true ↦ none_kept
       | false ↦ by_unknown (first_unknown ring ids)
     ]
 
-  by_rule : (rule : Option Ids) → governing_ids state.rules state.mounts name ≡ rule → AreAllKept (insert_ruled ring name body force state events rule).states
+  by_rule : (rule : Option Ids) → governing_ids state.rules state.mounts name ≡ rule → AreAllKept (states_of (insert_ruled ring name body force state events rule).steps)
   by_rule None ruled = none_kept
-  by_rule (Some ids) ruled = elim (not force && has_secret state name) as (λ b. AreAllKept (cond b (answers (Refused (Exists name))) (insert_within ring name body state events ids (passed_by state name body))).states) [
+  by_rule (Some ids) ruled = elim (not force && has_secret state name) as (λ b. AreAllKept (states_of (cond b (answers (Refused (Exists name))) (insert_within ring name body state events ids (passed_by state name body))).steps)) [
     | true ↦ none_kept
     | false ↦ by_limit ids ruled (passed_by state name body)
   ]
 
-  kept_by_plan : AreAllKept (plan_insert ring name body force state events).states
+  kept_by_plan : AreAllKept (states_of (plan_insert ring name body force state events).steps)
   kept_by_plan = by_rule (governing_ids state.rules state.mounts name) refl
 
-pub plan_insert_kept : (ring : Ring) (name body : Text) (force : Bool) (state : State) (events : Events) → IsKept state → AreAllKept (plan_insert ring name body force state events).states
+pub plan_insert_kept : (ring : Ring) (name body : Text) (force : Bool) (state : State) (events : Events) → IsKept state → AreAllKept (states_of (plan_insert ring name body force state events).steps)
 plan_insert_kept ring name body force state events kept = kept_by_plan ring name body force state events kept

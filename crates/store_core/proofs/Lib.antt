@@ -5,7 +5,6 @@ pub mod RoomLemmas
 pub mod InsertLemmas
 pub mod InsertFacts
 pub mod KeptLemmas
-pub mod ElsewhereLemmas
 pub mod KeepsLemmas
 pub mod ApartLemmas
 pub mod StepLemmas
@@ -16,7 +15,11 @@ pub mod EntryLemmas
 pub mod ForeseeLemmas
 pub mod ChangeOfLemmas
 pub mod ApplyLemmas
+pub mod LimitLemmas
 pub mod CommandLemmas
+pub mod WalkLemmas
+pub mod JoinLemmas
 pub mod InsertEdit
 pub mod CountLemmas
 pub mod RuleStep
+pub mod DifferLemmas

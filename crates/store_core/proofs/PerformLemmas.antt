@@ -1,5 +1,6 @@
--- Commands that change nothing, and want of memory behind any command.
-use Rattle.std.proofs.Common.{◌≡◌, inl, inr, ⊎_elim, ℕ, ◌+◌, ◌≤◌, true, List, [], length, take, Option, None, Some, refl, sym, ap, subst, arith}
+-- Commands that change nothing, and want of memory after any command.
+use Rattle.std.proofs.Common.{◌≡◌, inl, inr, ⊎_elim, ℕ, ◌+◌, ◌≤◌, true, List, [], length, take, Option, None, Some, refl, sym, ◌∙◌, ap, subst, arith}
+use Rattle.std.specs.Prelude.{Contains, IsFalse}
 use Rattle.std.proofs.lemmas.List.{take_all}
 use Rattle.gopass_base.specs.Text.{Text}
 use Rattle.gopass_base.specs.Faults.{Rose}
@@ -7,17 +8,16 @@ use Rattle.disk_model.specs.Disk.{Rests}
 use Rattle.disk_model.specs.Files.{Files}
 use Rattle.disk_model.specs.Runs.{Leaves}
 use Rattle.disk_model.proofs.RunLemmas.{rests_none}
-use Rattle.cipher_port.specs.Tool.{Opens}
 use Rattle.pending_journal.specs.Redo.{IsAtRest, RecoversTo}
 use Rattle.pending_journal.specs.Service.{is_service, journal_path}
 use Rattle.pending_journal.proofs.ServiceLemmas.{service_journal}
 use Rattle.pending_journal.proofs.RedoLemmas.{stands_none, without_none}
-use Rattle.store_state.specs.State.{State, StandsFor}
-use Rattle.store_core.specs.Plans.{Outcome, Plan}
+use Rattle.store_core.specs.Plans.{Outcome, Plan, Step, Failed, answers_within}
+use Rattle.store_core.specs.Steps.{Answer, IsStopIn, answer_up_to, answered, cut_off, just, known, states_of, stop_outcome, told_after, told_of}
 use Rattle.store_core.specs.Events.{Events, calm, refusing, Cause, TheDisk, Memory, Stop}
 use Rattle.store_core.specs.Moment.{Faults, Moment}
 use Rattle.store_core.specs.Elsewhere.{IsSameElsewhere}
-use Rattle.store_core.specs.Performs.{IsTied, Goes, LeftFor, Performs, cut_off, answered, stop_outcome}
+use Rattle.store_core.specs.Performs.{IsTied, Goes, KeepsElsewhere, LeftFor, Performs, Walks}
 
 -- files without any of the vault's own stand for themselves
 pub stands_at_rest : (root : Text) (files : Files) → ((q : Text) → is_service root q ≡ true → files q ≡ None) → RecoversTo root files files
@@ -34,55 +34,75 @@ pub still_same : (root : Text) (m : Moment) → IsAtRest root m.view → Still r
 still_same root m rest = record { at_rest = rest; rests = rests_none m.view; commits = refl; tools_later = omega arith }
 
 -- so each file is as it was
-pub rests_elsewhere : (root : Text) (paths : List Text) (old new : Moment) → Still root old new → Leaves (IsSameElsewhere root paths old.view.files) old.view new.view
+pub rests_elsewhere : (root : Text) (paths : List Text) (old new : Moment) → Still root old new → KeepsElsewhere root paths old new
 rests_elsewhere root paths old new still = record {
-  later = still.rests.time.later;
-  now = each;
-  during = λ t m le left. ⊎_elim (λ was. inl was) (λ im. inr (each m im)) (still.rests.time.only t m le left);
+  images = record {
+    later = still.rests.time.later;
+    now = each;
+    during = λ t m le left. ⊎_elim (λ was. inl was) (λ im. inr (each m im)) (still.rests.time.only t m le left);
+  };
+  files = λ free other apart. ap (λ (f : Files). f other) still.rests.files;
 }
   where
     each : (m : Files) → new.view.images m → IsSameElsewhere root paths old.view.files m
     each m im = (old.view.files, subst (λ (f : Files). RecoversTo root f old.view.files) (sym (still.at_rest.only m (still.rests.only m im))) (stands_at_rest root old.view.files still.at_rest.none), λ other apart. refl)
 
+-- ---- events and stops
+
 cause_in : Option Stop → Cause
 cause_in None = Memory
 cause_in (Some stop) = stop.cause
 
-no_stop : (n : ℕ) → ◌≡◌ {A = Option Stop} None (Some (record { cause = TheDisk; commits = n })) → ⊥
-no_stop n e = cc
+pub no_stop : (s : Stop) → ◌≡◌ {A = Option Stop} None (Some s) → ⊥
+no_stop s e = cc
 
-same_cause : (cause : Cause) (n m : ℕ) → ◌≡◌ {A = Option Stop} (Some (record { cause = cause; commits = n })) (Some (record { cause = TheDisk; commits = m })) → cause ≡ TheDisk
+pub same_cause : (stop s : Stop) → ◌≡◌ {A = Option Stop} (Some stop) (Some s) → stop.cause ≡ s.cause
 unfolding cause_in
-same_cause cause n m e = ap cause_in e
+same_cause stop s e = ap cause_in e
 
-not_the_disk : (n m : ℕ) → ◌≡◌ {A = Option Stop} (Some (record { cause = Memory; commits = n })) (Some (record { cause = TheDisk; commits = m })) → ⊥
-not_the_disk n m e = let f : Memory ≡ TheDisk = same_cause Memory n m e in cc
+pub not_the_disk : (stop s : Stop) → stop.cause ≡ Memory → ◌≡◌ {A = Option Stop} (Some stop) (Some s) → s.cause ≡ TheDisk → ⊥
+not_the_disk stop s memory e disk = let wrong : Memory ≡ TheDisk = sym memory ∙ (same_cause stop s e ∙ disk) in cc
+
+-- the events and a stop are tied to what happened, and no secret is to be told of
+pub record Ties (old new : Faults) (events : Events) (stop : Option Stop) : Type 0 where
+  pub tied : IsTied old new events stop
+  pub none : (name : Text) → ¬ Contains events.failed name
+
+none_failed : (name : Text) → ¬ Contains {X = Text} [] name
+none_failed name (k, lt, is) = absurd (omega (arith, lt))
 
 -- nothing failed
-pub calm_tied : (old new : Faults) → old.tools ≤ new.tools → IsTied old new calm None
-calm_tied old new later = record { tools = omega (arith, later); disk = λ n e. absurd (no_stop n e) }
+pub calm_tied : (old new : Faults) → old.tools ≤ new.tools → Ties old new calm None
+calm_tied old new later = record { tied = record { tools = omega (arith, later); disk = λ s e is. absurd (no_stop s e) }; none = none_failed }
 
 -- a tool failed for one name
-pub refusing_tied : (old new : Faults) (name : Text) → Rose old.tools new.tools → IsTied old new (refusing name) None
-refusing_tied old new name rose = record { tools = omega (arith, rose); disk = λ n e. absurd (no_stop n e) }
+pub refusing_tied : (old new : Faults) (name : Text) → Rose old.tools new.tools → Ties old new (refusing name) None
+refusing_tied old new name rose = record { tied = record { tools = omega (arith, rose); disk = λ s e is. absurd (no_stop s e) }; none = none_failed }
 
-pub stopped_tied : (old new : Faults) (cause : Cause) → old.tools ≤ new.tools → (cause ≡ TheDisk → Rose old.disk new.disk) → IsTied old new calm (Some (record { cause = cause; commits = 0 }))
-stopped_tied old new cause later tie = record { tools = omega (arith, later); disk = λ n e. tie (same_cause cause 0 n e) }
+pub stopped_tied : (old new : Faults) (stop : Stop) → old.tools ≤ new.tools → (stop.cause ≡ TheDisk → Rose old.disk new.disk) → Ties old new calm (Some stop)
+stopped_tied old new stop later tie = record { tied = record { tools = omega (arith, later); disk = λ s e is. tie (same_cause stop s e ∙ is) }; none = none_failed }
 
-module _ (opens : Opens) (root : Text) (start : State) (plan : Events → Plan) (old new : Moment) (s : StandsFor opens root old.view.files start) (still : Still root old new) where
+-- where none was told of
+pub just_stopped : (cause : Cause) → just (stop_outcome cause) ≡ record { outcome = stop_outcome cause; told = told_after cause [] }
+just_stopped TheDisk = refl
+just_stopped Memory = refl
+
+-- ---- nothing is changed
+
+module _ {S : Type 0} (Stands : Files → S → Type 0) (root : Text) (start : S) (plan : Events → Plan S) (old new : Moment) (s : Stands old.view.files start) (still : Still root old new) where
   -- each image that was there stands for the start
-  start_left : (m : Files) → old.view.images m → LeftFor opens root start m
+  start_left : (m : Files) → old.view.images m → LeftFor Stands root start m
   start_left m im = (old.view.files, subst (λ (f : Files). RecoversTo root f old.view.files) (sym (still.at_rest.only m im)) (stands_at_rest root old.view.files still.at_rest.none), s)
 
   -- and so does each that is there now
-  still_left : (m : Files) → new.view.images m → LeftFor opens root start m
+  still_left : (m : Files) → new.view.images m → LeftFor Stands root start m
   still_left m im = start_left m (still.rests.only m im)
 
-  pub goes_still : (states : List State) → Goes opens root start states 0 old new
+  pub goes_still : (states : List S) → Goes Stands root start states 0 old new
   goes_still states = record {
     within = omega arith;
     counted = record { least = omega (arith, still.commits); most = omega (arith, still.commits) };
-    state = λ free. subst (λ (f : Files). StandsFor opens root f start) (sym still.rests.files) s;
+    state = λ free. subst (λ (f : Files). Stands f start) (sym still.rests.files) s;
     any_moment = record {
       later = still.rests.time.later;
       now = λ m im. (0, omega arith, still_left m im);
@@ -92,49 +112,62 @@ module _ (opens : Opens) (root : Text) (start : State) (plan : Events → Plan) 
     still = λ e free. still.rests;
   }
 
-  -- and each file is as it was
-  still_elsewhere : (paths : List Text) → Leaves (IsSameElsewhere root paths old.view.files) old.view new.view
-  still_elsewhere paths = rests_elsewhere root paths old new still
-
-  -- nothing is changed, and the plan has no states
-  pub quiet : (events : Events) (said : Outcome) (calls : ℕ) → IsTied old.faults new.faults events None → new.calls ≤ old.calls + calls
-      → plan events ≡ record { outcome = said; states = []; calls = calls; changes = []; records = [] } → Performs opens root plan start old new said
-  quiet events said calls tied few is = record {
+  -- the plan has no steps
+  pub quiet : (events : Events) (said : Outcome) (calls : ℕ) → Ties old.faults new.faults events None → new.calls ≤ old.calls + calls
+      → plan events ≡ answers_within calls said → Performs Stands root plan start old new (just said)
+  quiet events said calls ties few is = record {
     events = events;
     stop = None;
-    tied = tied;
-    is = sym (ap (λ (p : Plan). p.outcome) is);
-    goes = subst (λ (p : Plan). Goes opens root start p.states (length p.states) old new) (sym is) (goes_still []);
-    calls = omega (arith, few, ap (λ (p : Plan). p.calls) is);
-    elsewhere = still_elsewhere (plan events).changes;
+    tied = ties.tied;
+    is = sym (ap (answer_up_to None) is);
+    tells = λ name has. absurd (ties.none name has);
+    walks = subst (λ (p : Plan S). Walks Stands root start p None old new) (sym is) (record { stops = record { within = omega arith; one_open = omega arith }; goes = goes_still [] });
+    calls = omega (arith, few, ap (λ (p : Plan S). p.calls) is);
+    elsewhere = rests_elsewhere root (plan events).changes old new still;
   }
 
-  -- the disk or want of memory stopped it before any commit
-  pub quiet_stop : (cause : Cause) → (cause ≡ TheDisk → Rose old.faults.disk new.faults.disk) → new.calls ≤ old.calls + (plan calm).calls → Performs opens root plan start old new (stop_outcome cause)
-  quiet_stop cause tie few = record {
-    events = calm;
-    stop = Some (record { cause = cause; commits = 0 });
-    tied = stopped_tied old.faults new.faults cause still.tools_later tie;
-    is = refl;
-    goes = goes_still (take (0 + 1) (plan calm).states);
-    calls = few;
-    elsewhere = still_elsewhere (plan calm).changes;
-  }
+  -- the disk or want of memory stopped it before any step
+  pub quiet_stop : (cause : Cause) → (cause ≡ TheDisk → Rose old.faults.disk new.faults.disk) → new.calls ≤ old.calls + (plan calm).calls → Performs Stands root plan start old new (just (stop_outcome cause))
+  quiet_stop cause tie few =
+      let stop : Stop = record { cause = cause; steps = 0; commits = 0 } in
+      let ties = stopped_tied old.faults new.faults stop still.tools_later tie in
+      record {
+        events = calm;
+        stop = Some stop;
+        tied = ties.tied;
+        is = just_stopped cause;
+        tells = λ name has. absurd (ties.none name has);
+        walks = record { stops = record { within = omega arith; one_open = omega arith }; goes = goes_still [] };
+        calls = few;
+        elsewhere = rests_elsewhere root (plan calm).changes old new still;
+      }
 
--- ---- want of memory behind the command: the same states, and another answer
+-- ---- want of memory after the command: the same states, and another answer
 
-cut_again : (stop : Option Stop) (p : Plan) → (cut_off stop p).states ≡ take (answered stop p + 1) p.states
-cut_again None p = sym (take_all (length p.states + 1) p.states (omega arith))
-cut_again (Some stop) p = refl
+-- a stop for want of memory where it ended
+abbrev ended : {S : Type 0} → Option Stop → List (Step S) → Stop
+ended stop steps = record { cause = Memory; steps = known stop steps; commits = answered stop steps }
 
-pub wants_memory : (opens : Opens) (root : Text) (start : State) (plan : Events → Plan) (old new : Moment) (said : Outcome)
-    → Performs opens root plan start old new said → Performs opens root plan start old new (stop_outcome Memory)
-wants_memory opens root start plan old new said p = record {
-  events = p.events;
-  stop = Some (record { cause = Memory; commits = answered p.stop (plan p.events) });
-  tied = record { tools = p.tied.tools; disk = λ n e. absurd (not_the_disk (answered p.stop (plan p.events)) n e) };
-  is = refl;
-  goes = subst (λ (states : List State). Goes opens root start states (answered p.stop (plan p.events)) old new) (cut_again p.stop (plan p.events)) p.goes;
-  calls = p.calls;
-  elsewhere = p.elsewhere;
-}
+cut_again : {S : Type 0} (stop : Option Stop) (steps : List (Step S)) → cut_off (Some (ended stop steps)) steps ≡ cut_off stop steps
+cut_again None steps = take_all (length steps) steps (omega arith)
+cut_again (Some stop) steps = refl
+
+pub wants_memory : {S : Type 0} (Stands : Files → S → Type 0) (root : Text) (start : S) (plan : Events → Plan S) (old new : Moment) (answer : Answer)
+    → Performs Stands root plan start old new answer → Performs Stands root plan start old new (just (stop_outcome Memory))
+wants_memory {S} Stands root start plan old new answer p =
+    let steps = (plan p.events).steps in
+    let stop = ended p.stop steps in
+    let same = cut_again p.stop steps in
+    record {
+      events = p.events;
+      stop = Some stop;
+      tied = record { tools = p.tied.tools; disk = λ s e is. absurd (not_the_disk stop s refl e is) };
+      is = refl;
+      tells = λ name has. subst (λ (l : List (Step S)). Contains (told_of l) (name, Failed)) (sym same) (p.tells name has);
+      walks = record {
+        stops = record { within = p.walks.stops.within; one_open = subst (λ (l : List (Step S)). length (states_of l) ≤ answered p.stop steps + 1) (sym same) p.walks.stops.one_open };
+        goes = subst (λ (l : List (Step S)). Goes Stands root start (states_of l) (answered p.stop steps) old new) (sym same) p.walks.goes;
+      };
+      calls = p.calls;
+      elsewhere = p.elsewhere;
+    }

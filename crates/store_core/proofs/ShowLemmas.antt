@@ -25,6 +25,7 @@ use Rattle.store_state.specs.Opening.{IsFound}
 use Rattle.store_state.specs.Places.{secret_path}
 use Rattle.store_state.specs.State.{State, Cell, StandsFor, cell_of, cell_with}
 use Rattle.store_core.specs.Plans.{Outcome, Done, Refused, Plan, answers_by_tool, outcome_by}
+use Rattle.store_core.specs.Steps.{just}
 use Rattle.store_core.specs.Events.{Events, calm, refusing, TheDisk, Memory}
 use Rattle.store_core.specs.Moment.{Moment}
 use Rattle.store_core.specs.Performs.{Performs}
@@ -87,17 +88,17 @@ module _ (opens : Opens) (root : Text) (ring : Ring) (name : Text) (state : Stat
   row_plan events row is = ap (show_row ring name (names_of state) events) is
 
   -- there is no such secret
-  pub show_missing : (Contains (names_of state) name → ⊥) → new.calls ≤ old.calls → Performs opens root (plan_show ring name state) state old new (Refused (why_missing name (names_of state)))
-  show_missing out few = quiet opens root state (plan_show ring name state) old new stands still calm (Refused (why_missing name (names_of state))) 0 (calm_tied old.faults new.faults still.tools_later) (omega (arith, few))
+  pub show_missing : (Contains (names_of state) name → ⊥) → new.calls ≤ old.calls → Performs (StandsFor opens root) root (plan_show ring name state) state old new (just (Refused (why_missing name (names_of state))))
+  show_missing out few = quiet (StandsFor opens root) root state (plan_show ring name state) old new stands still calm (Refused (why_missing name (names_of state))) 0 (calm_tied old.faults new.faults still.tools_later) (omega (arith, few))
       (row_plan calm None (row_missing state.rows name out))
 
   -- there was no memory
-  pub show_no_memory : new.calls ≤ old.calls + (plan_show ring name state calm).calls → Performs opens root (plan_show ring name state) state old new (Refused NoMemory)
-  show_no_memory few = quiet_stop opens root state (plan_show ring name state) old new stands still Memory (λ e. absurd (cc)) few
+  pub show_no_memory : new.calls ≤ old.calls + (plan_show ring name state calm).calls → Performs (StandsFor opens root) root (plan_show ring name state) state old new (just (Refused NoMemory))
+  show_no_memory few = quiet_stop (StandsFor opens root) root state (plan_show ring name state) old new stands still Memory (λ e. absurd (cc)) few
 
   -- the disk failed, or wanted memory
-  pub show_fault : (fault : ReadFault) → (fault ≡ ReadDisk → Rose old.faults.disk new.faults.disk) → new.calls ≤ old.calls → Performs opens root (plan_show ring name state) state old new (Refused (refusal_by_read fault))
-  show_fault ReadDisk rose few = quiet_stop opens root state (plan_show ring name state) old new stands still TheDisk (λ e. rose refl) (omega (arith, few))
+  pub show_fault : (fault : ReadFault) → (fault ≡ ReadDisk → Rose old.faults.disk new.faults.disk) → new.calls ≤ old.calls → Performs (StandsFor opens root) root (plan_show ring name state) state old new (just (Refused (refusal_by_read fault)))
+  show_fault ReadDisk rose few = quiet_stop (StandsFor opens root) root state (plan_show ring name state) old new stands still TheDisk (λ e. rose refl) (omega (arith, few))
   show_fault ReadNoMemory rose few = show_no_memory (omega (arith, few))
 
   -- what is the name of a secret is a name
@@ -114,24 +115,24 @@ module _ (opens : Opens) (root : Text) (ring : Ring) (name : Text) (state : Stat
       cell_is content e = stands.secrets.row name good ∙ (ap (option_map (cell_of opens)) file ∙ ap (λ c. Some (cell_with c bytes)) e)
 
       -- what is planned where nothing failed
-      calmly : (content : Option Content) (said : Outcome) → opens bytes ≡ content → new.calls ≤ old.calls + 1 → shown ring name (cell_with content bytes) ≡ said → Performs opens root (plan_show ring name state) state old new said
-      calmly content said e few is = quiet opens root state (plan_show ring name state) old new stands still calm said 1 (calm_tied old.faults new.faults still.tools_later) few
+      calmly : (content : Option Content) (said : Outcome) → opens bytes ≡ content → new.calls ≤ old.calls + 1 → shown ring name (cell_with content bytes) ≡ said → Performs (StandsFor opens root) root (plan_show ring name state) state old new (just said)
+      calmly content said e few is = quiet (StandsFor opens root) root state (plan_show ring name state) old new stands still calm said 1 (calm_tied old.faults new.faults still.tools_later) few
           (row_plan calm (Some (cell_with content bytes)) (cell_is content e) ∙ ap answers_by_tool is)
 
-      failed : new.calls ≤ old.calls + 1 → Rose old.faults.tools new.faults.tools → Performs opens root (plan_show ring name state) state old new (Refused (Tool name))
-      failed few rose = quiet opens root state (plan_show ring name state) old new stands still (refusing name) (Refused (Tool name)) 1 (refusing_tied old.faults new.faults name rose) few
+      failed : new.calls ≤ old.calls + 1 → Rose old.faults.tools new.faults.tools → Performs (StandsFor opens root) root (plan_show ring name state) state old new (just (Refused (Tool name)))
+      failed few rose = quiet (StandsFor opens root) root state (plan_show ring name state) old new stands still (refusing name) (Refused (Tool name)) 1 (refusing_tied old.faults new.faults name rose) few
           (row_plan (refusing name) (Some (cell_of opens bytes)) (cell_is (opens bytes) refl)
           ∙ ap (λ b. answers_by_tool (cond b (Refused (Tool name)) (shown ring name (cell_of opens bytes)))) ((bytes_eq-Decides name name).1 refl))
 
       -- what the tool gave
       pub show_given : (r : Result (Vec ℕ Global) Refusal) → Shows name (opens bytes) ring r → ((other : Text) → r ≡ Err (Tool other) → Rose old.faults.tools new.faults.tools) → new.calls ≤ old.calls + 1
-          → Performs opens root (plan_show ring name state) state old new (outcome_by (λ (body : Vec ℕ Global). body.items) r)
+          → Performs (StandsFor opens root) root (plan_show ring name state) state old new (just (outcome_by (λ (body : Vec ℕ Global). body.items) r))
       show_given (Ok body) (c, is, same, held) rose few = calmly (Some c) (Done body.items) is few (ap (λ b. cond b (Done c.body) (Refused (NoKey name))) held ∙ ap Done same)
       show_given (Err (NoKey other)) (same, (c, is, held)) rose few = calmly (Some c) (Refused (NoKey other)) is few
           (ap (λ b. cond b (Done c.body) (Refused (NoKey name))) held ∙ ap (λ n. Refused (NoKey n)) (sym same))
       show_given (Err (NotSealed other)) (same, is) rose few = calmly None (Refused (NotSealed other)) is few (ap (λ n. Refused (NotSealed n)) (sym same))
-      show_given (Err (Tool other)) same rose few = subst (λ n. Performs opens root (plan_show ring name state) state old new (Refused (Tool n))) (sym same) (failed few (rose other refl))
-      show_given (Err NoMemory) is rose few = show_no_memory (omega (arith, few, ap (λ (p : Plan). p.calls) (row_plan calm (Some (cell_of opens bytes)) (cell_is (opens bytes) refl))))
+      show_given (Err (Tool other)) same rose few = subst (λ n. Performs (StandsFor opens root) root (plan_show ring name state) state old new (just (Refused (Tool n)))) (sym same) (failed few (rose other refl))
+      show_given (Err NoMemory) is rose few = show_no_memory (omega (arith, few, ap (λ (p : Plan State). p.calls) (row_plan calm (Some (cell_of opens bytes)) (cell_is (opens bytes) refl))))
       show_given (Err NotFound) is rose few = absurd is
       show_given (Err IsFolder) is rose few = absurd is
       show_given (Err Disk) is rose few = absurd is

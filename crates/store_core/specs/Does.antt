@@ -4,26 +4,21 @@ use Rattle.gopass_base.specs.Text.{Text}
 use Rattle.gopass_base.specs.Faults.{HasCause, Rose}
 use Rattle.store_core.specs.declared.refusal.Refusal.TheVariants.{Tool, Disk, NoMemory}
 use Rattle.disk_model.specs.declared.disk.Disk.{Ghosts}
-use Rattle.cipher_port.specs.Tool.{Opens, Ring}
+use Rattle.cipher_port.specs.Tool.{Ring}
 use Rattle.store_core.specs.declared.store.Store.{Store}
 use Rattle.store_state.specs.State.{State, StandsFor}
 use Rattle.store_core.specs.Plans.{Outcome, Refused, Plan}
+use Rattle.store_core.specs.Steps.{Answer}
 use Rattle.store_core.specs.Events.{Events}
-use Rattle.store_core.specs.Moment.{Faults, Tools, moment_of, no_tools}
+use Rattle.store_core.specs.Moment.{Faults, Tools, moment_of}
 use Rattle.store_core.specs.Performs.{Performs}
 
 -- where disk and tools tell: for their ring, and each state that the files stand for, the command performs what is planned
-abbrev pub Does : {D : Type 0} {G : Ghosts D} → (Ring → State → Events → Plan) → (old new : Store D G) → (before after : Tools) → Outcome → Type 0
-Does {G = G} plan old new before after outcome =
+abbrev pub Does : {D : Type 0} {G : Ghosts D} → (Ring → State → Events → Plan State) → (old new : Store D G) → (before after : Tools) → Answer → Type 0
+Does {G = G} plan old new before after answer =
     G.meaning.tells → before.tells → (ring : Ring) → before.have ring → (start : State)
     → StandsFor before.opens old.vault.root (G.meaning.view old.vault.disk).files start
-    → Performs before.opens old.vault.root (plan ring start) start (moment_of old before) (moment_of new after) outcome
-
--- the same of a command that asks no tool, whatever a tool opens
-abbrev pub DoesAlone : {D : Type 0} {G : Ghosts D} → (State → Events → Plan) → (old new : Store D G) → Outcome → Type 0
-DoesAlone {G = G} plan old new outcome =
-    G.meaning.tells → (opens : Opens) (start : State) → StandsFor opens old.vault.root (G.meaning.view old.vault.disk).files start
-    → Performs opens old.vault.root (plan start) start (moment_of old no_tools) (moment_of new no_tools) outcome
+    → Performs (StandsFor before.opens old.vault.root) old.vault.root (plan ring start) start (moment_of old before) (moment_of new after) answer
 
 -- of calls that may each fail: a fault is told only where the count rose, and where none is told it stays
 pub record AreCaused (before now : ℕ) (Told : Type 0) : Type 0 where

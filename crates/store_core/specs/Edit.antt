@@ -1,16 +1,22 @@
 -- What an edit means: the state with its entries made.
-use Rattle.std.specs.Prelude.{◌≡◌, ℕ, ◌+◌, ◌-◌, ◌<◌, ◌≤◌, Bool, true, false, List, [], ◌∷◌, length, set, slice_index_or, is_some, Option, None, Some, option_map}
+use Rattle.std.specs.Prelude.{◌≡◌, ℕ, ◌+◌, ◌-◌, ◌<◌, ◌≤◌, Bool, true, false, List, [], ◌∷◌, length, set, slice_index_or, is_some, nat_lt, Option, None, Some, option_map, if◌then◌else◌}
+use Rattle.std.specs.List.{list_any}
 use Rattle.std.specs.FinMap as map
 use Rattle.gopass_base.specs.Text.{Text}
 use Rattle.gopass_base.specs.Order.{TextMap}
 use Rattle.mount_table.specs.MountOf.{mount_of}
 use Rattle.mount_table.specs.declared.mounts.Row.{Row}
+use Rattle.disk_model.specs.Files.{Files as DiskFiles}
 use Rattle.recipient_files.specs.Ids.{Ids}
 use Rattle.recipient_files.specs.RuleText.{rule_text}
 use Rattle.path_rules.specs.RuleMap.{rule_at}
+use Rattle.path_rules.specs.Limits.{most_rules}
 use Rattle.cipher_port.specs.Tool.{Opens}
+use Rattle.store_state.specs.declared.fault.Limit.{Limit}
+use Rattle.store_state.specs.declared.fault.Limit.TheVariants.{Rules, Secrets, Files}
 use Rattle.store_state.specs.Places.{folder_mount, rule_path, secret_path, template_path}
 use Rattle.store_state.specs.State.{State, cell_of}
+use Rattle.store_state.specs.Limits.{most_files, most_secrets}
 
 -- what is to be: the sealed bytes of the file of a secret, the ids of the rule of a folder, the bytes of its template; or that
 -- there is to be none
@@ -34,6 +40,11 @@ file_of_entry (OfTemplate folder file) = file
 abbrev pub paths_in : List Row → List Entry → List Text
 paths_in mounts [] = []
 paths_in mounts (entry ∷ entries) = place mounts entry ∷ paths_in mounts entries
+
+-- the file of each entry is as it is to be
+abbrev pub AreWritten : List Row → List Entry → DiskFiles → Type 0
+AreWritten mounts [] files = Unit {0}
+AreWritten mounts (entry ∷ entries) files = (files (place mounts entry) ≡ file_of_entry entry) × AreWritten mounts entries files
 
 -- ---- the state
 
@@ -94,9 +105,21 @@ edited opens (entry ∷ entries) state = edited opens entries (with_entry opens 
 
 -- a store in this state opens: no limit is passed
 pub record IsWithin (state : State) : Type 0 where
-  pub few_rules : map.len state.rules ≤ 512
-  pub few_secrets : map.len state.rows ≤ 8192
-  pub few_files : (k : ℕ) → k < length state.mounts → slice_index_or state.sizes k 0 ≤ 40000
+  pub few_rules : map.len state.rules ≤ most_rules
+  pub few_secrets : map.len state.rows ≤ most_secrets
+  pub few_files : (k : ℕ) → k < length state.mounts → slice_index_or state.sizes k 0 ≤ most_files
+
+-- the first limit that so many rules, secrets and files below each mount pass
+abbrev pub limit_among : (rules secrets : ℕ) → (counts : List ℕ) → Option Limit
+limit_among rules secrets counts =
+    if nat_lt most_rules rules then Some Rules
+    else if nat_lt most_secrets secrets then Some Secrets
+    else if list_any (λ count. nat_lt most_files count) counts then Some Files
+    else None
+
+-- the first limit that a store in this state passes
+abbrev pub limit_in : State → Option Limit
+limit_in state = limit_among (map.len state.rules) (map.len state.rows) state.sizes
 
 -- ---- entries about different things
 

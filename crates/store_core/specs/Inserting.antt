@@ -10,6 +10,8 @@ use Rattle.store_state.specs.declared.opening.Found.{Found}
 use Rattle.store_core.specs.declared.refusal.Refusal.{Refusal}
 use Rattle.store_core.specs.declared.refusal.Refusal.TheVariants.{NoRule, Exists, Full, UnknownId, Tool, NoMemory}
 use Rattle.gopass_base.specs.Order.{IsRising}
+use Rattle.cipher_port.specs.Limits.{most_body}
+use Rattle.store_state.specs.Limits.{most_files, most_secrets}
 
 -- no rule governs the name, or there was no memory
 abbrev pub IsUnruled : Text → Option Ids → Refusal → Type 0
@@ -20,10 +22,10 @@ IsUnruled name ids _ = ⊥
 -- the limit that is passed by a body, where the name is there or not, among so many secrets and files
 abbrev pub limit_by : Text → Bool → (secrets files : ℕ) → Option Limit
 limit_by body there secrets files =
-    if nat_lt 32768 (length body) then Some Body
+    if nat_lt most_body (length body) then Some Body
     else if there then None
-    else if nat_le 8192 secrets then Some Secrets
-    else if nat_le 40000 files then Some Files
+    else if nat_le most_secrets secrets then Some Secrets
+    else if nat_le most_files files then Some Files
     else None
 
 -- a secret may be put, or why not; there may be no memory for the name of one that is in the way

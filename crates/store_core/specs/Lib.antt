@@ -1,6 +1,7 @@
 pub mod Stores
 pub mod Reads
 pub mod Plans
+pub mod Steps
 pub mod Events
 pub mod Moment
 pub mod Performs
@@ -15,3 +16,5 @@ pub mod Elsewhere
 pub mod Edit
 pub mod Entries
 pub mod Applying
+pub mod Once
+pub mod OfState

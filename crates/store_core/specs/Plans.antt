@@ -1,7 +1,6 @@
 -- What a command comes to, and what it leaves.
-use Rattle.std.specs.Prelude.{ℕ, List, [], Result, Ok, Err}
+use Rattle.std.specs.Prelude.{ℕ, List, [], ◌∷◌, Option, Some, Result, Ok, Err}
 use Rattle.gopass_base.specs.Text.{Text}
-use Rattle.store_state.specs.State.{State}
 use Rattle.store_core.specs.declared.refusal.Refusal.{Refusal}
 
 -- it is done, and gives these bytes; nothing was found; a word of it names nothing, from this byte on; or it is refused
@@ -21,19 +20,45 @@ pub record Record : Type 0 where
   pub dir : Text
   pub text : Text
 
--- a command: its outcome, the states that it passes through, how often it calls a tool at most, the paths whose files it may
--- change, and what is recorded of it
-pub record Plan : Type 0 where
+-- why a secret stays as it was in a command that goes on: no key is held for it, its file is not sealed, an id is not known, no
+-- rule governs it, or the tool failed
+pub data Why : Type 0 where
+  NoKey : Why
+  NotSealed : Why
+  UnknownId : Why
+  NoRule : Why
+  Failed : Why
+
+-- the secrets that stay, each with why
+abbrev pub Told : Type 0
+Told = List (Text × Why)
+
+-- what a command does in one go: the state that it commits, if any, and the secrets that stay, of which it tells
+pub record Step (S : Type 0) : Type 0 where
+  pub state : Option S
+  pub told : Told
+
+-- a command: its outcome, its steps, how often it calls a tool at most, the paths whose files it may change, and what is
+-- recorded of it
+pub record Plan (S : Type 0) : Type 0 where
   pub outcome : Outcome
-  pub states : List State
+  pub steps : List (Step S)
   pub calls : ℕ
   pub changes : List Text
   pub records : List Record
 
+-- a command that changes nothing and calls a tool so often at most
+abbrev pub answers_within : {S : Type 0} → ℕ → Outcome → Plan S
+answers_within calls outcome = record { outcome = outcome; steps = []; calls = calls; changes = []; records = [] }
+
 -- a command that changes nothing and calls no tool
-abbrev pub answers : Outcome → Plan
-answers outcome = record { outcome = outcome; states = []; calls = 0; changes = []; records = [] }
+abbrev pub answers : {S : Type 0} → Outcome → Plan S
+answers outcome = answers_within 0 outcome
 
 -- a command that changes nothing and calls a tool once
-abbrev pub answers_by_tool : Outcome → Plan
-answers_by_tool outcome = record { outcome = outcome; states = []; calls = 1; changes = []; records = [] }
+abbrev pub answers_by_tool : {S : Type 0} → Outcome → Plan S
+answers_by_tool outcome = answers_within 1 outcome
+
+-- a command with one commit, which prints nothing
+abbrev pub commits : {S : Type 0} → S → (calls : ℕ) (changes : List Text) → Plan S
+commits next calls changes = record { outcome = Done []; steps = record { state = Some next; told = [] } ∷ []; calls = calls; changes = changes; records = [] }

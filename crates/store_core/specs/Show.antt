@@ -28,10 +28,10 @@ shown ring name (Sealed content) = if has_key_of ring content.to then Done conte
 shown ring name (Broken bytes) = Refused (NotSealed name)
 
 -- what is planned of a secret, or of none
-abbrev pub show_row : Ring → Text → List Text → Events → Option Cell → Plan
+abbrev pub show_row : Ring → Text → List Text → Events → Option Cell → Plan State
 show_row ring name names events None = answers (missing name names)
 show_row ring name names events (Some cell) = answers_by_tool (if is_refused name events then Refused (Tool name) else shown ring name cell)
 
 -- `show` prints the body of a secret, and changes nothing
-abbrev pub plan_show : Ring → Text → State → Events → Plan
+abbrev pub plan_show : Ring → Text → State → Events → Plan State
 plan_show ring name state events = show_row ring name (names_of state) events (map.get state.rows name)

@@ -1,14 +1,13 @@
 //! The one function that commits.
 
-ghost use Rattle.std.specs.Prelude.{◌≡◌, ◌≢◌, ◌≤◌, length, [], ◌∷◌, IsFalse, OnOk, OnErr, Err};
-ghost use Rattle.gopass_base.specs.Faults.{HasCause};
-ghost use Rattle.disk_model.specs.Runs.{Leaves};
+ghost use Rattle.std.specs.Prelude.{◌≡◌, ◌≢◌, ◌≤◌, length, [], ◌∷◌, IsFalse, IsTrue, OnOk, OnErr, Err};
+ghost use Rattle.gopass_base.specs.Faults.{HasCause, counted};
+ghost use Rattle.pending_journal.specs.Journal.{most_steps};
 ghost use Rattle.cipher_port.specs.Tool.{Opens};
 ghost use Rattle.store_state.specs.State.{State, StandsFor};
-ghost use Rattle.store_core.specs.Elsewhere.{IsSameElsewhere};
 ghost use Rattle.store_core.specs.Moment.{moment_of, no_tools};
-ghost use Rattle.store_core.specs.Performs.{Goes};
-ghost use Rattle.store_core.specs.Edit.{Differ, IsWithin, edited, paths_in};
+ghost use Rattle.store_core.specs.Performs.{Goes, KeepsElsewhere};
+ghost use Rattle.store_core.specs.Edit.{AreWritten, Differ, IsWithin, edited, paths_in};
 ghost use Rattle.store_core.specs.Entries.{entries_in};
 ghost use Rattle.store_core.specs.Applying.{IsFaultOf, IsMadeBy, made_by};
 
@@ -32,24 +31,29 @@ fn fault_of(fault: CommitFault) -> ApplyFault
 }
 
 impl<D: Disk> Store<D> {
-    /// Makes the edit in one commit. No two of its entries are of one secret, rule or template, there are
-    /// at most 16,400, and no limit of a store is passed afterwards. After a fault of the disk the edit
-    /// is made whole or not at all, and the store is stuck. No other file is changed, and what the
-    /// store keeps changes where the answer is `Ok` alone.
+    /// Makes the edit in one commit. After a fault of the disk it is made whole or not at all, and the
+    /// store is stuck. No other file is changed, and what the store keeps changes where the answer is
+    /// `Ok` alone.
+    ///
+    /// The caller has shown that no two entries of the edit are of one secret, rule or template, that
+    /// there are at most 16,400, and that no limit of a store is passed afterwards.
     pub fn apply(&mut self, edit: &Edit) -> Result<(), ApplyFault>
         requires free { IsFalse self.old.vault.stuck }
         requires differ { Differ (entries_in edit.now) }
-        requires few { length (entries_in edit.now) ≤ 16400 }
+        requires few { length (entries_in edit.now) ≤ most_steps }
         requires fits { D.meaning.tells → (opens : Opens) (start : State) → StandsFor opens self.old.vault.root (D.meaning.view self.old.vault.disk).files start
             → IsWithin (edited opens (entries_in edit.now) start) }
         ensures goes { D.meaning.tells → (opens : Opens) (start : State) → StandsFor opens self.old.vault.root (D.meaning.view self.old.vault.disk).files start
-            → Goes opens self.old.vault.root start (edited opens (entries_in edit.now) start ∷ []) (made_by result) (moment_of self.old no_tools) (moment_of self.new no_tools) }
-        ensures elsewhere { D.meaning.tells → Leaves (IsSameElsewhere self.old.vault.root (paths_in self.old.found.mounts (entries_in edit.now)) (D.meaning.view self.old.vault.disk).files)
-            (D.meaning.view self.old.vault.disk) (D.meaning.view self.new.vault.disk) }
+            → Goes (StandsFor opens self.old.vault.root) self.old.vault.root start (edited opens (entries_in edit.now) start ∷ []) (made_by result) (moment_of self.old no_tools) (moment_of self.new no_tools) }
+        ensures elsewhere { D.meaning.tells → KeepsElsewhere self.old.vault.root (paths_in self.old.found.mounts (entries_in edit.now)) (moment_of self.old no_tools) (moment_of self.new no_tools) }
+        ensures files { OnOk result (D.meaning.tells → AreWritten self.old.found.mounts (entries_in edit.now) (D.meaning.view self.new.vault.disk).files) }
         ensures kept { OnOk result (IsMadeBy (entries_in edit.now) self.old.found self.new.found) }
         ensures same { OnErr result (self.new.found ≡ self.old.found) }
         ensures cause { HasCause (D.meaning.faults self.old.vault.disk) (D.meaning.faults self.new.vault.disk) (result ≡ Err ApplyFault.Disk) }
         ensures free { OnOk result (IsFalse self.new.vault.stuck) }
+        ensures stuck { result ≡ Err ApplyFault.Disk → IsTrue self.new.vault.stuck }
+        ensures counted { OnOk result (self.new.vault.commits ≡ counted self.old.vault.commits) }
+        ensures uncounted { OnErr result (self.new.vault.commits ≡ self.old.vault.commits) }
         ensures root { self.new.vault.root ≡ self.old.vault.root }
     {
         let next = foresee(self.alloc(), &self.found, edit)?;

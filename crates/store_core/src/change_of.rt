@@ -4,6 +4,7 @@ ghost use Rattle.std.specs.Prelude.{◌≡◌, ◌++◌, ◌∷◌, ◌≤◌, [
 ghost use Rattle.mount_table.specs.Mounts.{IsTable, root_of};
 ghost use Rattle.recipient_files.specs.RuleText.{rule_text};
 ghost use Rattle.pending_journal.specs.Change.{MayAdd, plan_in, puts_in};
+ghost use Rattle.pending_journal.specs.Journal.{most_steps};
 ghost use Rattle.store_core.specs.Edit.{Differ, OfSecret, OfRule, OfTemplate};
 ghost use Rattle.store_core.specs.Entries.{entries_in, text_in};
 ghost use Rattle.store_core.specs.Applying.{AreIds, IsChangeOf, IsFileOf, IsGood, drop_by, put_by};
@@ -146,7 +147,7 @@ pub(crate) fn change_of(
 ) -> Result<Change, NoMemory>
     requires root { root_of mounts.now ≡ root.now }
     requires differ { Differ (entries_in edit.now) }
-    requires few { length (entries_in edit.now) ≤ 16400 }
+    requires few { length (entries_in edit.now) ≤ most_steps }
     ensures change { IfOk result (IsChangeOf root.now mounts.now (entries_in edit.now)) }
     ensures table { IsTable root.now mounts.now }
 {

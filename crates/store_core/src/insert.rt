@@ -1,15 +1,16 @@
 //! The command `insert`.
 
-ghost use Rattle.std.specs.Prelude.{◌≡◌, ◌∷◌, ◌≢◌, ◌+◌, ◌≤◌, [], length, not, ◌&&◌, IsFalse, IfOk, IfErr, OnOk, Some, Err};
+ghost use Rattle.std.specs.Prelude.{◌≡◌, ◌∷◌, ◌≢◌, ◌+◌, ◌≤◌, [], length, not, ◌&&◌, IsFalse, IsTrue, IfOk, IfErr, OnOk, OnErr, Some, Err};
 ghost use Rattle.gopass_base.specs.Text.{Text};
 ghost use Rattle.gopass_base.specs.Faults.{HasCause, counted};
 ghost use Rattle.path_rules.specs.Governing.{governing_ids};
-ghost use Rattle.disk_model.specs.Runs.{Leaves};
+ghost use Rattle.cipher_port.specs.Limits.{most_body};
 ghost use Rattle.store_state.specs.Places.{secret_path};
-ghost use Rattle.store_core.specs.Elsewhere.{IsSameElsewhere};
-ghost use Rattle.store_core.specs.Moment.{one_tool};
+ghost use Rattle.store_core.specs.Moment.{moment_of, no_tools, one_tool};
+ghost use Rattle.store_core.specs.Performs.{KeepsElsewhere};
 ghost use Rattle.store_core.specs.Does.{Does, Keeps};
 ghost use Rattle.store_core.specs.Plans.{outcome_by};
+ghost use Rattle.store_core.specs.Steps.{just};
 ghost use Rattle.store_core.specs.Refusals.{IsAbout};
 ghost use Rattle.store_core.specs.Insert.{plan_insert};
 ghost use Rattle.store_core.specs.Edit.{OfSecret};
@@ -40,7 +41,7 @@ fn seal_body<C: Cipher>(
     body: &[u8],
     tool: &mut C,
 ) -> Result<Vec<u8>, Refusal>
-    requires { length body.now ≤ 32768 }
+    requires { length body.now ≤ most_body }
     ensures seals { C.meaning.tells → SealsBody C.meaning.opens (C.meaning.ring tool.old) ids.now name.now body.now result }
     ensures ring { C.meaning.ring tool.new ≡ C.meaning.ring tool.old }
     ensures once { C.meaning.calls tool.new ≤ C.meaning.calls tool.old + 1 }
@@ -92,7 +93,7 @@ impl<D: Disk> Store<D> {
     /// Whether the secret may be put: it is not there or is to be written over, and no limit is passed.
     fn test(&self, name: &Name, body: &[u8], force: bool) -> Result<(), Refusal>
         ensures tested { IsTested self.now.found name.now body.now force result }
-        ensures short { OnOk result (length body.now ≤ 32768) }
+        ensures short { OnOk result (length body.now ≤ most_body) }
         ensures no_disk { result ≢ Err Refusal.Disk }
     {
         let there = has_name(self.names(), name);
@@ -124,12 +125,14 @@ impl<D: Disk> Store<D> {
     ) -> Result<(), Refusal>
         requires free { IsFalse self.old.vault.stuck }
         ensures planned { Does (λ ring. plan_insert ring name.now body.now force) self.old self.new (one_tool C.meaning tool.old) (one_tool C.meaning tool.new)
-            (outcome_by (λ done. []) result) }
+            (just (outcome_by (λ done. []) result)) }
         ensures keeps { Keeps 1 self.old self.new (one_tool C.meaning tool.old) (one_tool C.meaning tool.new)
             (outcome_by (λ done. []) result) }
         ensures about { IfErr result (IsAbout name.now) }
-        ensures elsewhere { D.meaning.tells → Leaves (IsSameElsewhere self.old.vault.root (secret_path self.old.found.mounts name.now ∷ []) (D.meaning.view self.old.vault.disk).files)
-            (D.meaning.view self.old.vault.disk) (D.meaning.view self.new.vault.disk) }
+        ensures stuck { result ≡ Err Refusal.Disk → IsTrue self.new.vault.stuck }
+        ensures counted { OnOk result (self.new.vault.commits ≡ counted self.old.vault.commits) }
+        ensures uncounted { OnErr result (self.new.vault.commits ≡ self.old.vault.commits) }
+        ensures elsewhere { D.meaning.tells → KeepsElsewhere self.old.vault.root (secret_path self.old.found.mounts name.now ∷ []) (moment_of self.old no_tools) (moment_of self.new no_tools) }
     {
         let alloc = self.alloc();
         let ids = self.rule_for(name)?;

@@ -3,10 +3,12 @@
 
 mod apply;
 mod change_of;
+mod differ;
 mod edit;
 mod foresee;
 mod insert;
 mod laws;
+mod limits;
 mod open_store;
 mod read_fault;
 mod reads;
@@ -15,12 +17,14 @@ mod show;
 mod store;
 
 pub use edit::{ApplyFault, Edit};
-pub use laws::insert_keeps;
+pub use laws::{insert_keeps, store_has_its_state};
 pub use open_store::StoreOpened;
 pub use read_fault::ReadFault;
 pub use refusal::Refusal;
 pub use store::Store;
 pub use store_state::{Limit, StoreFault};
 
+#[cfg(test)]
+mod apply_tests;
 #[cfg(test)]
 mod tests;

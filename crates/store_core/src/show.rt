@@ -1,12 +1,14 @@
 //! The command `show`.
 
-ghost use Rattle.std.specs.Prelude.{◌≡◌, ◌≢◌, ◌+◌, ◌≤◌, length, IsFalse, IfOk, IfErr, Err};
+ghost use Rattle.std.specs.Prelude.{◌≡◌, ◌≢◌, ◌+◌, ◌≤◌, length, Contains, IsFalse, IsOk, IfOk, IfErr, Err};
 ghost use Rattle.gopass_base.specs.Text.{Text};
-ghost use Rattle.gopass_base.specs.Faults.{HasCause, counted};
-ghost use Rattle.disk_model.specs.Disk.{Rests};
+ghost use Rattle.gopass_base.specs.Faults.{Costs, HasCause, counted};
+ghost use Rattle.store_core.specs.Stores.{OnlyReadsStore};
+ghost use Rattle.cipher_port.specs.Limits.{most_body};
 ghost use Rattle.store_core.specs.Moment.{one_tool};
 ghost use Rattle.store_core.specs.Does.{Does, Keeps};
 ghost use Rattle.store_core.specs.Plans.{outcome_by};
+ghost use Rattle.store_core.specs.Steps.{just};
 ghost use Rattle.store_core.specs.Refusals.{IsAbout};
 ghost use Rattle.store_core.specs.Show.{plan_show};
 ghost use Rattle.store_core.specs.Unsealing.{IsNotSealed, Shows, refusal_by_tool, why_missing};
@@ -66,7 +68,7 @@ fn unseal<C: Cipher>(
     ensures calls { result ≢ Err Refusal.NoMemory → C.meaning.calls tool.new ≡ counted (C.meaning.calls tool.old) }
     ensures no_disk { result ≢ Err Refusal.Disk }
     ensures about { IfErr result (IsAbout name.now) }
-    ensures bound { IfOk result (λ body. length body.items ≤ 32768) }
+    ensures bound { IfOk result (λ body. length body.items ≤ most_body) }
     ensures cause { HasCause (C.meaning.faults tool.old) (C.meaning.faults tool.new) ((name : Text) × (result ≡ Err (Refusal.Tool name))) }
 {
     let own = name.copy(alloc)?;
@@ -77,20 +79,25 @@ fn unseal<C: Cipher>(
 }
 
 impl<D: Disk> Store<D> {
-    /// The body of the secret. It is opened with one call of the tool, and nothing is changed.
+    /// The body of the secret. Its file is read with one call of the disk and opened with one of the
+    /// tool, and nothing is changed. Where there is no such secret the disk is not asked.
     pub fn show<C: Cipher>(&mut self, name: &Name, tool: &mut C) -> Result<Vec<u8>, Refusal>
         requires free { IsFalse self.old.vault.stuck }
         ensures planned { Does (λ ring. plan_show ring name.now) self.old self.new (one_tool C.meaning tool.old) (one_tool C.meaning tool.new)
-            (outcome_by (λ body. body.items) result) }
+            (just (outcome_by (λ body. body.items) result)) }
         ensures keeps { Keeps 1 self.old self.new (one_tool C.meaning tool.old) (one_tool C.meaning tool.new)
             (outcome_by (λ body. body.items) result) }
         ensures about { IfErr result (IsAbout name.now) }
-        ensures bound { IfOk result (λ body. length body.items ≤ 32768) }
-        ensures rests { D.meaning.tells → Rests (D.meaning.view self.old.vault.disk) (D.meaning.view self.new.vault.disk) }
+        ensures bound { IfOk result (λ body. length body.items ≤ most_body) }
+        ensures only_reads { OnlyReadsStore self.old self.new }
+        ensures costs { Costs 1 (D.meaning.calls self.old.vault.disk) (D.meaning.calls self.new.vault.disk) (IsOk result) }
+        ensures unasked { D.meaning.tells → ¬ Contains self.old.found.seen.names.items name.now → D.meaning.calls self.new.vault.disk ≡ D.meaning.calls self.old.vault.disk }
     {
         if !has_name(self.names(), name) {
             return Err(why_missing(self.names(), name));
         }
+        // A name is one, so its file is none of the vault's own.
+        let _ = name.text();
         let path = self.mounts().file_of(name)?;
         match self.read_at(&path)? {
             Some(sealed) => unseal(self.alloc(), name, &sealed, tool),

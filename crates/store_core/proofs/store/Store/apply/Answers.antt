@@ -15,11 +15,11 @@ use Rattle.store_state.specs.State.{StandsFor}
 use Rattle.store_state.proofs.AgreeLemmas.{mounts_agree}
 use Rattle.store_core.specs.Applying.{places_of}
 use Rattle.store_core.specs.Entries.{entries_in}
-use Rattle.store_core.specs.Edit.{edited, paths_in}
+use Rattle.store_core.specs.Edit.{AreWritten, edited, paths_in}
 use Rattle.store_core.specs.Moment.{Moment, moment_of, no_tools}
-use Rattle.store_core.proofs.ElsewhereLemmas.{rest_elsewhere}
-use Rattle.store_core.proofs.EditLemmas.{change_makes, edited_files, places_apart}
-use Rattle.store_core.proofs.ApplyLemmas.{applied_elsewhere, fault_caused, edited_none, edited_state_stands, goes_applied, goes_failed, goes_same, merely_applied}
+use Rattle.store_core.proofs.PerformLemmas.{rests_elsewhere, still_same}
+use Rattle.store_core.proofs.EditLemmas.{change_makes, edited_files, edited_written, places_apart}
+use Rattle.store_core.proofs.ApplyLemmas.{edited_none, edited_state_stands, fault_caused, goes_applied, goes_failed, goes_same, made_elsewhere, merely_applied, stuck_elsewhere}
 use Rattle.store_core.proofs.store.Store.apply.Goals as goal
 
 pub returns-in_err-next-clause-goes : goal.returns-in_err-next-clause-goes
@@ -31,7 +31,8 @@ returns-in_err-next-clause-goes g c told opens start s =
 pub returns-in_err-next-clause-elsewhere : goal.returns-in_err-next-clause-elsewhere
 returns-in_err-next-clause-elsewhere g c told =
     let self = c.args.self.now in
-    rest_elsewhere self.vault.root (paths_in self.found.mounts (entries_in c.args.edit.now)) (g.D.Disk.meaning.view self.vault.disk) (self.vault.at_rest c.requires.free told)
+    let now = moment_of self no_tools in
+    rests_elsewhere self.vault.root (paths_in self.found.mounts (entries_in c.args.edit.now)) now now (still_same self.vault.root now (self.vault.at_rest c.requires.free told))
 
 pub returns-in_err-change-clause-goes : goal.returns-in_err-change-clause-goes
 returns-in_err-change-clause-goes g c told opens start s =
@@ -42,7 +43,8 @@ returns-in_err-change-clause-goes g c told opens start s =
 pub returns-in_err-change-clause-elsewhere : goal.returns-in_err-change-clause-elsewhere
 returns-in_err-change-clause-elsewhere g c told =
     let self = c.args.self.now in
-    rest_elsewhere self.vault.root (paths_in self.found.mounts (entries_in c.args.edit.now)) (g.D.Disk.meaning.view self.vault.disk) (self.vault.at_rest c.requires.free told)
+    let now = moment_of self no_tools in
+    rests_elsewhere self.vault.root (paths_in self.found.mounts (entries_in c.args.edit.now)) now now (still_same self.vault.root now (self.vault.at_rest c.requires.free told))
 
 pub returns-in-Err-clause-goes : goal.returns-in-Err-clause-goes
 returns-in-Err-clause-goes g c told opens start s =
@@ -83,7 +85,14 @@ returns-in-Err-clause-elsewhere g c told =
     let after = edited_files mounts edit old.files in
     let after_is : changed change old.files ≡ after = change_makes (places_of mounts edit) change old.files (places_apart root mounts edit table_is of.good c.requires.differ) of.puts of.drops in
     let run = subst (λ (f : Files). Leaves (IsBeforeOrAfter root old.files f) old (g.D.Disk.meaning.view c.commit.new.self.disk)) after_is (c.commit.ensures.any_moment c.requires.free told) in
-    applied_elsewhere root mounts edit old (g.D.Disk.meaning.view c.commit.new.self.disk) run
+    let new : Moment = record {
+      view = g.D.Disk.meaning.view c.commit.new.self.disk;
+      faults = record { disk = g.D.Disk.meaning.faults c.commit.new.self.disk; tools = 0 };
+      calls = 0;
+      commits = c.commit.new.self.commits;
+      stuck = c.commit.new.self.stuck;
+    } in
+    stuck_elsewhere root mounts edit (moment_of self no_tools) new run (c.commit.ensures.is_stuck ∙ ap is_err c.in-Err.is)
 
 pub invariant_of-self-in-Ok : goal.invariant_of-self-in-Ok
 invariant_of-self-in-Ok g c =
@@ -153,4 +162,23 @@ returns-clause-elsewhere g c told =
     let after = edited_files mounts edit old.files in
     let after_is : changed change old.files ≡ after = change_makes (places_of mounts edit) change old.files (places_apart root mounts edit table_is of.good c.requires.differ) of.puts of.drops in
     let run = subst (λ (f : Files). Leaves (IsBeforeOrAfter root old.files f) old (g.D.Disk.meaning.view c.commit.new.self.disk)) after_is (c.commit.ensures.any_moment c.requires.free told) in
-    applied_elsewhere root mounts edit old (g.D.Disk.meaning.view c.commit.new.self.disk) run
+    let new : Moment = record {
+      view = g.D.Disk.meaning.view c.commit.new.self.disk;
+      faults = record { disk = g.D.Disk.meaning.faults c.commit.new.self.disk; tools = 0 };
+      calls = 0;
+      commits = c.commit.new.self.commits;
+      stuck = c.commit.new.self.stuck;
+    } in
+    made_elsewhere root mounts edit (moment_of self no_tools) new run ((c.in-Ok.ensures.made told).files ∙ after_is)
+
+pub returns-clause-files : goal.returns-clause-files
+returns-clause-files g c told =
+    let self = c.args.self.now in
+    let mounts = self.found.mounts in
+    let old = g.D.Disk.meaning.view self.vault.disk in
+    let edit = entries_in c.args.edit.now in
+    let of = c.in_ok-change.ensures.change in
+    let table_is = subst (λ (r : Text). IsTable r mounts) c.root.ensures c.change_of.ensures.table in
+    let apart = places_apart self.vault.root mounts edit table_is of.good c.requires.differ in
+    let after_is = change_makes (places_of mounts edit) c.in_ok-change.change old.files apart of.puts of.drops in
+    subst (λ (f : Files). AreWritten mounts edit f) (sym ((c.in-Ok.ensures.made told).files ∙ after_is)) (edited_written mounts edit old.files apart)

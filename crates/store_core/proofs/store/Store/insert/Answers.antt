@@ -1,24 +1,22 @@
 use Rattle.std.proofs.Common.{rules, Global, List, [], ◌∷◌, Some, None, Ok, Err, refl, sym, ◌∙◌, ap, subst, arith}
 use Rattle.std.specs.Prelude.{slice_index_or, length}
 use Rattle.std.proofs.lemmas.Result.{err_from_is_err_and}
-use Rattle.disk_model.specs.Runs.{Leaves}
 use Rattle.path_rules.specs.Governing.{governing_ids}
 use Rattle.cipher_port.specs.Tool.{Ring, made_of}
 use Rattle.store_core.specs.Entries.{entries_in}
 use Rattle.store_core.specs.Edit.{Differ, Entry, IsWithin, edited, paths_in}
-use Rattle.store_core.specs.Elsewhere.{IsSameElsewhere}
-use Rattle.store_core.specs.Moment.{moment_of, one_tool}
+use Rattle.store_core.specs.Performs.{KeepsElsewhere}
+use Rattle.store_core.specs.Moment.{moment_of, no_tools, one_tool}
 use Rattle.store_state.specs.Places.{secret_path}
 use Rattle.store_state.specs.State.{Sealed}
 use Rattle.store_core.specs.Insert.{plan_insert, with_cell}
 use Rattle.store_core.specs.Inserting.{SealsBody, limit_by}
 use Rattle.store_state.proofs.AgreeLemmas.{mounts_agree}
 use Rattle.store_core.proofs.CommandLemmas.{edit_keeps, edit_performs}
-use Rattle.store_core.proofs.PerformLemmas.{Still, still_same}
+use Rattle.store_core.proofs.PerformLemmas.{Still, rests_elsewhere, still_same}
 use Rattle.store_core.proofs.InsertLemmas.{insert_no_memory_then, plan_sealed}
 use Rattle.store_core.proofs.InsertFacts.{ids_are, way_is, limit_is, insert_unruled, insert_tested, insert_unsealed}
 use Rattle.store_core.proofs.InsertEdit.{edited_one, one_fits}
-use Rattle.store_core.proofs.ElsewhereLemmas.{rest_elsewhere}
 use Rattle.store_core.specs.declared.refusal.Refusal.TheVariants.{NoMemory}
 use Rattle.store_core.proofs.KeepsLemmas.{tool_keeps}
 use Rattle.store_core.proofs.store.Store.insert.Goals as goal
@@ -149,22 +147,26 @@ returns-clause-keeps g c = rw (c.refused_by.ensures) (edit_keeps 1 c.args.self.n
 pub returns-in_err-ids-clause-elsewhere : goal.returns-in_err-ids-clause-elsewhere
 returns-in_err-ids-clause-elsewhere g c told =
     let self = c.args.self.now in
-    rest_elsewhere self.vault.root (secret_path self.found.mounts c.args.name.now ∷ []) (g.D.Disk.meaning.view self.vault.disk) (self.vault.at_rest c.requires.free told)
+    let now = moment_of self no_tools in
+    rests_elsewhere self.vault.root (secret_path self.found.mounts c.args.name.now ∷ []) now now (still_same self.vault.root now (self.vault.at_rest c.requires.free told))
 
 pub returns-in_err-test-clause-elsewhere : goal.returns-in_err-test-clause-elsewhere
 returns-in_err-test-clause-elsewhere g c told =
     let self = c.args.self.now in
-    rest_elsewhere self.vault.root (secret_path self.found.mounts c.args.name.now ∷ []) (g.D.Disk.meaning.view self.vault.disk) (self.vault.at_rest c.requires.free told)
+    let now = moment_of self no_tools in
+    rests_elsewhere self.vault.root (secret_path self.found.mounts c.args.name.now ∷ []) now now (still_same self.vault.root now (self.vault.at_rest c.requires.free told))
 
 pub returns-in_err-sealed-clause-elsewhere : goal.returns-in_err-sealed-clause-elsewhere
 returns-in_err-sealed-clause-elsewhere g c told =
     let self = c.args.self.now in
-    rest_elsewhere self.vault.root (secret_path self.found.mounts c.args.name.now ∷ []) (g.D.Disk.meaning.view self.vault.disk) (self.vault.at_rest c.requires.free told)
+    let now = moment_of self no_tools in
+    rests_elsewhere self.vault.root (secret_path self.found.mounts c.args.name.now ∷ []) now now (still_same self.vault.root now (self.vault.at_rest c.requires.free told))
 
 pub returns-in_err-edit-clause-elsewhere : goal.returns-in_err-edit-clause-elsewhere
 returns-in_err-edit-clause-elsewhere g c told =
     let self = c.args.self.now in
-    rest_elsewhere self.vault.root (secret_path self.found.mounts c.args.name.now ∷ []) (g.D.Disk.meaning.view self.vault.disk) (self.vault.at_rest c.requires.free told)
+    let now = moment_of self no_tools in
+    rests_elsewhere self.vault.root (secret_path self.found.mounts c.args.name.now ∷ []) now now (still_same self.vault.root now (self.vault.at_rest c.requires.free told))
 
 pub returns-in_err-edit-clause-keeps : goal.returns-in_err-edit-clause-keeps
 returns-in_err-edit-clause-keeps g c =
@@ -177,5 +179,4 @@ returns-in_err-edit-clause-keeps g c =
 pub returns-clause-elsewhere : goal.returns-clause-elsewhere
 returns-clause-elsewhere g c told =
     let self = c.args.self.now in
-    let view = g.D.Disk.meaning.view self.vault.disk in
-    subst (λ (es : List Entry). Leaves (IsSameElsewhere self.vault.root (paths_in self.found.mounts es) view.files) view (g.D.Disk.meaning.view c.apply.new.self.vault.disk)) c.in_ok-edit.ensures (c.apply.ensures.elsewhere told)
+    subst (λ (es : List Entry). KeepsElsewhere self.vault.root (paths_in self.found.mounts es) (moment_of self no_tools) (moment_of c.apply.new.self no_tools)) c.in_ok-edit.ensures (c.apply.ensures.elsewhere told)
