@@ -4,7 +4,7 @@ use Rattle.command_words.specs.declared.options.Flag.{Flag}
 use Rattle.command_words.specs.declared.options.Flag.TheVariants.{Flat, Force, Multi}
 use Rattle.command_words.specs.declared.options.Flags.{Flags}
 use Rattle.command_words.specs.Options.{has, with}
-use Rattle.command_words.specs.Said.{only}
+use Rattle.command_words.specs.Invocations.{only}
 
 granted : (a b : Bool) → (not a || b) ≡ false → (a && true) ≡ true
 granted true b good = refl

@@ -1,6 +1,7 @@
 pub mod Lookup
 pub mod Options
 pub mod Forms
-pub mod Said
+pub mod Invocations
+pub mod Takes
 pub mod Words
 pub mod Reads

@@ -7,12 +7,12 @@ use Rattle.command_words.specs.declared.reading.WordsFault.{WordsFault}
 use Rattle.command_words.specs.declared.reading.WordsFault.TheVariants.{Bad, NoMemory}
 use Rattle.command_words.specs.declared.verb.Form.{Form}
 use Rattle.command_words.specs.Options.{no_flags}
-use Rattle.command_words.specs.Said.{Asked, asked_by}
+use Rattle.command_words.specs.Invocations.{Invocation, invocation_of}
 use Rattle.command_words.specs.Words.{first_bad, given, options, plain_words}
 
 -- the command that the words say, or the place of the first that is bad
-abbrev pub ReadsWords : Result Command WordsFault → Result Asked ℕ → Type 0
-ReadsWords (Ok command) words = words ≡ Ok (asked_by command)
+abbrev pub ReadsWords : Result Command WordsFault → Result Invocation ℕ → Type 0
+ReadsWords (Ok command) words = words ≡ Ok (invocation_of command)
 ReadsWords (Err (Bad at)) words = words ≡ Err at
 ReadsWords (Err NoMemory) words = Unit {0}
 

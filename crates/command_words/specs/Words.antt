@@ -10,7 +10,7 @@ use Rattle.command_words.specs.declared.kind.Kind.{Kind}
 use Rattle.command_words.specs.declared.kind.Kind.TheVariants.{Dashes, Given, Plain, Unknown}
 use Rattle.command_words.specs.Options.{flag_at, has, no_flags, with}
 use Rattle.command_words.specs.Forms.{form_of, verb_at}
-use Rattle.command_words.specs.Said.{Asked}
+use Rattle.command_words.specs.Invocations.{Invocation}
 
 -- ---- options and plain words
 abbrev pub is_dashes : Text → Bool
@@ -79,20 +79,20 @@ first_bad form before [] = None
 first_bad form before (word ∷ words) = if is_bad_behind form before word then Some (length before + 1) else first_bad form (before ++ word ∷ []) words
 
 -- ---- the command
-abbrev pub said_if_enough : Verb → List Text → Result Asked ℕ
+abbrev pub said_if_enough : Verb → List Text → Result Invocation ℕ
 said_if_enough verb words =
     if nat_lt (length (plain_words words)) (form_of verb).least then Err (length words + 1)
     else Ok (record { verb = verb; flags = given no_flags (options words); plain = plain_words words })
 
-abbrev pub said_unless : Option ℕ → Result Asked ℕ → Result Asked ℕ
+abbrev pub said_unless : Option ℕ → Result Invocation ℕ → Result Invocation ℕ
 said_unless None said = said
 said_unless (Some at) said = Err at
 
-abbrev pub said_with : Option Verb → List Text → Result Asked ℕ
+abbrev pub said_with : Option Verb → List Text → Result Invocation ℕ
 said_with None words = Err 0
 said_with (Some verb) words = said_unless (first_bad (form_of verb) [] words) (said_if_enough verb words)
 
 -- what the words say, or the place of the first that is bad
-abbrev pub words_in : List Text → Result Asked ℕ
+abbrev pub words_in : List Text → Result Invocation ℕ
 words_in [] = Err 0
 words_in (word ∷ words) = said_with (verb_at word) words

@@ -3,7 +3,8 @@
 ghost use Rattle.std.specs.Prelude.{◌≡◌, ◌≤◌, ◌∷◌, [], vec_len, map, string_bytes};
 ghost use Rattle.std.specs.Option.{option_to_list};
 ghost use Rattle.command_words.specs.Forms.{form_of};
-ghost use Rattle.command_words.specs.Said.{only, asked_by};
+ghost use Rattle.command_words.specs.Invocations.{only, invocation_of};
+ghost use Rattle.command_words.specs.Takes.{takes};
 
 use crate::options::Flags;
 use crate::verb::Verb;
@@ -37,12 +38,34 @@ pub enum Command {
     Recipients,
 }
 
+/// How much of the input a command takes for its body.
+#[derive(Clone, Copy, Debug, PartialEq, Eq)]
+pub enum Intake {
+    /// The first line.
+    Line,
+    /// All that is left.
+    All,
+}
+
+impl Command {
+    /// What the command takes of the input, or None where it has no body.
+    pub fn takes(&self) -> Option<Intake>
+        ensures { result ≡ takes self.now }
+    {
+        match self {
+            Command::Insert { multi: true, .. } => Some(Intake::All),
+            Command::Insert { multi: false, .. } => Some(Intake::Line),
+            _ => None,
+        }
+    }
+}
+
 /// The command with these options and plain words.
 pub(crate) fn build(verb: Verb, flags: Flags, plain: Vec<String>) -> Command
     requires least { (form_of verb).least ≤ vec_len plain }
     requires most { vec_len plain ≤ (form_of verb).most }
     requires taken { only (form_of verb).flags flags ≡ flags }
-    ensures { asked_by result ≡ record { verb = verb; flags = flags; plain = map string_bytes plain.items } }
+    ensures { invocation_of result ≡ record { verb = verb; flags = flags; plain = map string_bytes plain.items } }
 {
     match verb {
         Verb::Find => Command::Find { text: one(plain) },

@@ -7,7 +7,7 @@ mod options;
 mod reading;
 mod verb;
 
-pub use command::Command;
+pub use command::{Command, Intake};
 pub use reading::{WordsFault, read_words};
 
 #[cfg(test)]

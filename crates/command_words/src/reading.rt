@@ -2,7 +2,7 @@
 
 ghost use Rattle.std.specs.Prelude.{◌≡◌, ◌≤◌, vec_len, map, string_bytes, IfOk};
 ghost use Rattle.command_words.specs.Forms.{form_of};
-ghost use Rattle.command_words.specs.Said.{only};
+ghost use Rattle.command_words.specs.Invocations.{only};
 ghost use Rattle.command_words.specs.Words.{is_bad, words_in};
 ghost use Rattle.command_words.specs.Reads.{ReadsWords, Sorts};
 ghost use Rattle.command_words.specs.declared.reading.WordsFault.TheVariants.{NoMemory};

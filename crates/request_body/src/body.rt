@@ -1,15 +1,15 @@
 //! The body of a request: one line of the input, or all of it.
 
-ghost use Rattle.std.specs.Prelude.{◌≡◌, ◌++◌, ◌∷◌, ◌↔◌, ◌≤◌, ◌+◌, [], IfOk, IfErr, IsTrue, Err, is_some, vec_len, true, false};
+ghost use Rattle.std.specs.Prelude.{◌≡◌, ◌++◌, ◌∷◌, ◌↔◌, ◌≤◌, ◌+◌, [], IfOk, IfErr, IsTrue, Err, is_some, vec_len, false};
 ghost use Rattle.gopass_base.specs.Faults.{HasCause};
 ghost use Rattle.io_ports.specs.Told.{Told};
 ghost use Rattle.io_ports.specs.Source.{Grew};
 ghost use Rattle.io_ports.specs.Input.{IsLine, content_of};
-ghost use Rattle.request_body.specs.Bodies.{HasLf, IsOver, TakesBody, input_of, most_of};
+ghost use Rattle.request_body.specs.Bodies.{HasLf, IsOver, TakesBody, input_of, most_of, most_input, most_taken};
 ghost use Rattle.request_body.specs.Given.{IsGiven, IsNoBody, IsSized, bytes_of, takes_body};
 ghost use Rattle.request_body.specs.declared.body.BodyFault.TheVariants.{NoMemory as no_memory};
 
-use command_words::Command;
+use command_words::{Command, Intake};
 use gopass_base::NoMemory;
 use io_ports::{InputFault, MAX_INPUT, Source, read_all, read_line};
 use std::alloc::Global;
@@ -58,7 +58,7 @@ fn has_lf(line: &[u8]) -> bool
 
 /// What the line says, with a line feed behind it.
 fn ended(line: Vec<u8>) -> Result<Vec<u8>, NoMemory>
-    requires { IsLine 16777216 line.items }
+    requires { IsLine most_input line.items }
     ensures { IfOk result (λ body. body.items ≡ content_of line.items ++ 10 ∷ []) }
 {
     if has_lf(&line) {
@@ -71,9 +71,9 @@ fn ended(line: Vec<u8>) -> Result<Vec<u8>, NoMemory>
 
 /// The body of one line.
 fn read_one<S: Source>(alloc: Global, input: &mut S) -> Result<Vec<u8>, BodyFault>
-    ensures taken { TakesBody false (input_of S.meaning input.old input.new) result }
-    ensures size { IfOk result (λ body. vec_len body ≤ most_of false) }
-    ensures most { S.meaning.taken input.new ≤ S.meaning.taken input.old + 16777217 }
+    ensures taken { TakesBody Intake.Line (input_of S.meaning input.old input.new) result }
+    ensures size { IfOk result (λ body. vec_len body ≤ most_of Intake.Line) }
+    ensures most { S.meaning.taken input.new ≤ S.meaning.taken input.old + most_taken }
     ensures ends { S.meaning.ends input.new ≤ S.meaning.ends input.old + 1 }
     ensures cause { HasCause (S.meaning.faults input.old) (S.meaning.faults input.new) (result ≡ Err BodyFault.Failed) }
 {
@@ -89,9 +89,9 @@ fn read_one<S: Source>(alloc: Global, input: &mut S) -> Result<Vec<u8>, BodyFaul
 
 /// The body of all that is left.
 fn read_rest<S: Source>(alloc: Global, input: &mut S) -> Result<Vec<u8>, BodyFault>
-    ensures taken { TakesBody true (input_of S.meaning input.old input.new) result }
-    ensures size { IfOk result (λ body. vec_len body ≤ most_of true) }
-    ensures most { S.meaning.taken input.new ≤ S.meaning.taken input.old + 16777217 }
+    ensures taken { TakesBody Intake.All (input_of S.meaning input.old input.new) result }
+    ensures size { IfOk result (λ body. vec_len body ≤ most_of Intake.All) }
+    ensures most { S.meaning.taken input.new ≤ S.meaning.taken input.old + most_taken }
     ensures ends { S.meaning.ends input.new ≤ S.meaning.ends input.old + 1 }
     ensures cause { HasCause (S.meaning.faults input.old) (S.meaning.faults input.new) (result ≡ Err BodyFault.Failed) }
 {
@@ -99,19 +99,18 @@ fn read_rest<S: Source>(alloc: Global, input: &mut S) -> Result<Vec<u8>, BodyFau
 }
 
 /// The body that is taken from the input: one line with a line feed behind it, or all that is left.
-fn read_body<S: Source>(alloc: Global, multi: bool, input: &mut S) -> Result<Vec<u8>, BodyFault>
-    ensures taken { TakesBody multi (input_of S.meaning input.old input.new) result }
-    ensures size { IfOk result (λ body. vec_len body ≤ most_of multi) }
+fn read_body<S: Source>(alloc: Global, intake: Intake, input: &mut S) -> Result<Vec<u8>, BodyFault>
+    ensures taken { TakesBody intake (input_of S.meaning input.old input.new) result }
+    ensures size { IfOk result (λ body. vec_len body ≤ most_of intake) }
     ensures over { result ≡ Err BodyFault.Long → Told IsOver (S.meaning.left input.old) (S.meaning.left input.new) }
-    ensures long { result ≡ Err BodyFault.Long → Grew 16777217 (S.meaning.taken input.old) (S.meaning.taken input.new) }
-    ensures most { S.meaning.taken input.new ≤ S.meaning.taken input.old + 16777217 }
+    ensures long { result ≡ Err BodyFault.Long → Grew most_taken (S.meaning.taken input.old) (S.meaning.taken input.new) }
+    ensures most { S.meaning.taken input.new ≤ S.meaning.taken input.old + most_taken }
     ensures ends { S.meaning.ends input.new ≤ S.meaning.ends input.old + 1 }
     ensures cause { HasCause (S.meaning.faults input.old) (S.meaning.faults input.new) (result ≡ Err BodyFault.Failed) }
 {
-    if multi {
-        read_rest(alloc, input)
-    } else {
-        read_one(alloc, input)
+    match intake {
+        Intake::Line => read_one(alloc, input),
+        Intake::All => read_rest(alloc, input),
     }
 }
 
@@ -126,18 +125,18 @@ pub fn take_body<S: Source>(
     ensures size { IfOk result (λ body. IsSized command.now (bytes_of body)) }
     ensures refused { IfErr result (IsNoBody command.now (input_of S.meaning input.old input.new)) }
     ensures over { result ≡ Err BodyFault.Long → Told IsOver (S.meaning.left input.old) (S.meaning.left input.new) }
-    ensures long { result ≡ Err BodyFault.Long → Grew 16777217 (S.meaning.taken input.old) (S.meaning.taken input.new) }
+    ensures long { result ≡ Err BodyFault.Long → Grew most_taken (S.meaning.taken input.old) (S.meaning.taken input.new) }
     ensures left { takes_body command.now ≡ false → input.new ≡ input.old }
-    ensures most { S.meaning.taken input.new ≤ S.meaning.taken input.old + 16777217 }
+    ensures most { S.meaning.taken input.new ≤ S.meaning.taken input.old + most_taken }
     ensures ends { S.meaning.ends input.new ≤ S.meaning.ends input.old + 1 }
     ensures cause { HasCause (S.meaning.faults input.old) (S.meaning.faults input.new) (result ≡ Err BodyFault.Failed) }
 {
-    match command {
-        Command::Insert { multi, .. } => match read_body(alloc, *multi, input) {
+    match command.takes() {
+        Some(intake) => match read_body(alloc, intake, input) {
             Ok(body) => Ok(Some(body)),
             Err(fault) => Err(fault),
         },
-        _ => Ok(None),
+        None => Ok(None),
     }
 }
 
@@ -158,23 +157,23 @@ mod tests {
 
     #[test]
     fn a_body_is_a_line_or_all(rt: HostRuntime) -> Result<(), Fail> {
-        for (text, multi, body, left) in [
+        for (text, intake, body, left) in [
             (
                 b"new\n".as_slice(),
-                false,
+                Intake::Line,
                 Ok(b"new\n".as_slice()),
                 b"".as_slice(),
             ),
-            (b"p", false, Ok(b"p\n"), b""),
-            (b"", false, Err(BodyFault::Missing), b""),
-            (b"\nx", false, Ok(b"\n"), b"x"),
-            (b"a\r\nb", false, Ok(b"a\r\n"), b"b"),
-            (b"", true, Ok(b""), b""),
-            (b"a\nb", true, Ok(b"a\nb"), b""),
-            (b"a\n", true, Ok(b"a\n"), b""),
+            (b"p", Intake::Line, Ok(b"p\n"), b""),
+            (b"", Intake::Line, Err(BodyFault::Missing), b""),
+            (b"\nx", Intake::Line, Ok(b"\n"), b"x"),
+            (b"a\r\nb", Intake::Line, Ok(b"a\r\n"), b"b"),
+            (b"", Intake::All, Ok(b""), b""),
+            (b"a\nb", Intake::All, Ok(b"a\nb"), b""),
+            (b"a\n", Intake::All, Ok(b"a\n"), b""),
         ] {
             let mut source = MemSource::new(text.to_vec(rt.alloc())?, Vec::new(rt.alloc()));
-            let got = read_body(rt.alloc(), multi, &mut source);
+            let got = read_body(rt.alloc(), intake, &mut source);
             assert!(rt; gives(&got, body));
             assert_eq!(rt; source.left(), left);
         }
@@ -184,11 +183,11 @@ mod tests {
     #[test]
     fn a_fault_of_the_input_is_told(rt: HostRuntime) -> Result<(), Fail> {
         let failed = Err(BodyFault::Failed);
-        for multi in [false, true] {
+        for intake in [Intake::Line, Intake::All] {
             let failing = vec![in rt.alloc(); 0u64]?;
             let mut source = MemSource::new(b"a\n".to_vec(rt.alloc())?, failing);
-            assert!(rt; gives(&read_body(rt.alloc(), multi, &mut source), failed));
-            assert!(rt; gives(&read_body(rt.alloc(), multi, &mut source), Ok(b"a\n")));
+            assert!(rt; gives(&read_body(rt.alloc(), intake, &mut source), failed));
+            assert!(rt; gives(&read_body(rt.alloc(), intake, &mut source), Ok(b"a\n")));
         }
         Ok(())
     }

@@ -1,6 +1,6 @@
 use Rattle.std.proofs.Common.{◌≡◌, ◌≤◌, vec_len, drop, take, map, string_bytes}
 use Rattle.command_words.specs.Forms.{form_of}
-use Rattle.command_words.specs.Said.{only}
+use Rattle.command_words.specs.Invocations.{only}
 use Rattle.command_words.proofs.Sorting.{IsRead}
 use Rattle.command_words.proofs.reading.sort.Given as goal
 

@@ -1,16 +1,16 @@
-use Rattle.std.proofs.Common.{false, true}
+use Rattle.command_words.specs.declared.command.Intake.TheVariants.{Line, All}
 use Rattle.request_body.specs.Bodies.{input_of}
 use Rattle.request_body.proofs.BodyLemmas.{over_body, long_body}
 use Rattle.request_body.proofs.body.read_body.Goals as goal
 
-pub returns-then-multi-clause-over : goal.returns-then-multi-clause-over
-returns-then-multi-clause-over g c = over_body true (input_of g.S.Source.meaning c.args.input.now c.read_rest.new.input) c.read_rest.result c.read_rest.ensures.taken
+pub returns-in-All-clause-over : goal.returns-in-All-clause-over
+returns-in-All-clause-over g c = over_body All (input_of g.S.Source.meaning c.args.input.now c.read_rest.new.input) c.read_rest.result c.read_rest.ensures.taken
 
-pub returns-else-multi-clause-over : goal.returns-else-multi-clause-over
-returns-else-multi-clause-over g c = over_body false (input_of g.S.Source.meaning c.args.input.now c.read_one.new.input) c.read_one.result c.read_one.ensures.taken
+pub returns-in-Line-clause-over : goal.returns-in-Line-clause-over
+returns-in-Line-clause-over g c = over_body Line (input_of g.S.Source.meaning c.args.input.now c.read_one.new.input) c.read_one.result c.read_one.ensures.taken
 
-pub returns-then-multi-clause-long : goal.returns-then-multi-clause-long
-returns-then-multi-clause-long g c = long_body true (input_of g.S.Source.meaning c.args.input.now c.read_rest.new.input) c.read_rest.result c.read_rest.ensures.taken
+pub returns-in-All-clause-long : goal.returns-in-All-clause-long
+returns-in-All-clause-long g c = long_body All (input_of g.S.Source.meaning c.args.input.now c.read_rest.new.input) c.read_rest.result c.read_rest.ensures.taken
 
-pub returns-else-multi-clause-long : goal.returns-else-multi-clause-long
-returns-else-multi-clause-long g c = long_body false (input_of g.S.Source.meaning c.args.input.now c.read_one.new.input) c.read_one.result c.read_one.ensures.taken
+pub returns-in-Line-clause-long : goal.returns-in-Line-clause-long
+returns-in-Line-clause-long g c = long_body Line (input_of g.S.Source.meaning c.args.input.now c.read_one.new.input) c.read_one.result c.read_one.ensures.taken
