@@ -39,7 +39,7 @@ fn with_more(paths: Vec<FilePath>, more: usize, max: usize) -> Result<Listed, No
 }
 
 impl Disk for Crowd {
-    ghost meaning = { record { tells = ⊥; view = λ crowd. view_of crowd.disk; faults = λ crowd. crowd.disk.calls.faults; calls = λ crowd. crowd.disk.calls.made; held = λ crowd. crowd.disk.held } };
+    ghost meaning = { record { tells = ⊥; view = λ crowd. view_of crowd.disk; faults = λ crowd. crowd.disk.calls.faults; calls = λ crowd. crowd.disk.calls.made; asked = λ crowd. crowd.disk.asked; held = λ crowd. crowd.disk.held } };
 
     ghost sound = { λ crowd told. absurd told };
 

@@ -22,6 +22,8 @@ mod recipients_tests;
 #[cfg(test)]
 mod show_tests;
 #[cfg(test)]
+mod status_tests;
+#[cfg(test)]
 mod store;
 #[cfg(test)]
 mod stream_tests;

@@ -4,7 +4,7 @@
 mod store;
 mod stream;
 
-use gopass_cli::{Ended, gopass};
+use gopass_cli::{Ended, Status, gopass};
 use std::alloc::AllocError;
 use std::io::ErrorKind;
 use std::process::ExitCode;
@@ -42,9 +42,9 @@ fn run(rt: &HostRuntime, words: &[String]) -> Result<u8, AllocError> {
 }
 
 /// Says on standard error why no run was begun, and answers the status.
-fn refuse(rt: &HostRuntime, why: &str, status: u8) -> ExitCode {
+fn refuse(rt: &HostRuntime, why: &str, status: Status) -> ExitCode {
     let _ = eprintln!(rt; "gopass: {why}");
-    ExitCode::from(status)
+    ExitCode::from(status.code())
 }
 
 /// Where a word is not UTF-8 the words are bad from the first on.
@@ -52,12 +52,12 @@ fn main(rt: HostRuntime) -> ExitCode {
     let words = match words(&rt) {
         Ok(words) => words,
         Err(fault) if fault.kind() == ErrorKind::InvalidData => {
-            return refuse(&rt, "bad words at 0", 2);
+            return refuse(&rt, "bad words at 0", Status::BadWords);
         }
-        Err(_) => return refuse(&rt, "out of memory", 14),
+        Err(_) => return refuse(&rt, "out of memory", Status::NoMemory),
     };
     match run(&rt, &words) {
         Ok(status) => ExitCode::from(status),
-        Err(_) => refuse(&rt, "out of memory", 14),
+        Err(_) => refuse(&rt, "out of memory", Status::NoMemory),
     }
 }

@@ -1,6 +1,7 @@
 -- How runs after one another keep the crash promise.
 use Rattle.std.proofs.Common.{◌≡◌, inl, inr, ⊎_elim, ℕ, zero, suc, ◌+◌, ◌<◌, List, [], ◌∷◌, ◌++◌, length, take, Option, Some, None, refl, sym, ◌∙◌, ap, subst, arith}
 use Rattle.std.specs.Prelude.{Contains}
+use Rattle.std.specs.Option.{option_to_list}
 use Rattle.std.proofs.lemmas.List.Elements.{Contains-append_left, Contains-append_right, Contains-append_cases}
 use Rattle.gopass_base.specs.Text.{Text}
 use Rattle.gopass_base.proofs.ListLemmas.{here, later}
@@ -11,16 +12,17 @@ use Rattle.disk_model.proofs.RunLemmas.{leaves_weaken}
 use Rattle.pending_journal.specs.Redo.{RecoversTo}
 use Rattle.pending_journal.specs.Recovery.{IsOldOrAlike}
 use Rattle.pending_journal.proofs.PlanLemmas.{one_meaning}
+use Rattle.store_core.specs.Steps.{answered, states_of, states_up_to}
 use Rattle.store_core.specs.Elsewhere.{IsSameElsewhere}
 use Rattle.cipher_port.specs.Tool.{Opens}
-use Rattle.store_state.specs.State.{State}
-use Rattle.store_core.specs.Performs.{IsReached, answered, cut_off, state_at}
+use Rattle.store_state.specs.State.{State, StandsFor}
+use Rattle.store_core.specs.Performs.{IsReached, state_at}
 use Rattle.gopass_cli.specs.Plan.{plan_of}
 use Rattle.gopass_cli.specs.Safe.{IsOneOf, IsOldOrElsewhere, StandsForOne}
 use Rattle.gopass_cli.proofs.SafeLemmas.{start_or}
 use Rattle.gopass_cli.proofs.KeptLemmas.{plan_kept}
 use Rattle.store_core.specs.Kept.{IsKept, AreAllKept}
-use Rattle.store_core.specs.Plans.{Plan}
+use Rattle.store_core.specs.Plans.{Plan, Step}
 use Rattle.store_core.specs.Events.{Stop}
 use Rattle.gopass_cli.specs.History.{Run, IsKeptBy, History, begun, handed_back, crashed, stopped, next_after, found_after, found_during, changed_by, changes_of, first_disk}
 
@@ -40,16 +42,18 @@ next_in (s ∷ states) zero q (zero, lt, is) = (0, omega arith, is)
 next_in (s ∷ states) zero q (suc k, lt, is) = absurd (omega (arith, lt))
 next_in (s ∷ states) (suc n) q has = later s states q (next_in states n q has)
 
-take_has : (n : ℕ) (states : List State) (q : State) → Contains (take n states) q → Contains states q
-take_has zero states q (k, lt, is) = absurd (omega (arith, lt))
+take_has : (n : ℕ) (steps : List (Step State)) (q : State) → Contains (states_of (take n steps)) q → Contains (states_of steps) q
+take_has zero steps q (k, lt, is) = absurd (omega (arith, lt))
 take_has (suc n) [] q has = has
-take_has (suc n) (s ∷ states) q (zero, lt, is) = (0, omega arith, is)
-take_has (suc n) (s ∷ states) q (suc k, lt, is) = later s states q (take_has n states q (k, omega (arith, lt), is))
+take_has (suc n) (step ∷ steps) q has = elim (Contains-append_cases (option_to_list step.state) (states_of (take n steps)) q has) [
+  | inl one ↦ Contains-append_left (option_to_list step.state) (states_of steps) q one
+  | inr more ↦ Contains-append_right (option_to_list step.state) (states_of steps) q (take_has n steps q more)
+]
 
 -- what is left of a plan that was cut off is of the plan
-cut_has : (plan : Plan) (stop : Option Stop) (q : State) → Contains (cut_off stop plan).states q → Contains plan.states q
+cut_has : (plan : Plan State) (stop : Option Stop) (q : State) → Contains (states_up_to stop plan) q → Contains (states_of plan.steps) q
 cut_has plan None q has = has
-cut_has plan (Some stop) q has = take_has (stop.commits + 1) plan.states q has
+cut_has plan (Some stop) q has = take_has stop.steps plan.steps q has
 
 head_kept : (s : State) (states : List State) → IsKept s → AreAllKept states → AreAllKept (s ∷ states)
 head_kept s states kept all q (zero, lt, is) = subst (λ (t : State). IsKept t) is kept
@@ -57,7 +61,7 @@ head_kept s states kept all q (suc k, lt, is) = all q (k, omega (arith, lt), is)
 
 module _ (opens : Opens) (root : Text) where
   -- what is reached is found
-  reached_found : (start : State) (states : List State) (n : ℕ) (m : Files) → IsReached opens root start states n m → IsOneOf opens root (state_at start states n ∷ next_after states n) m
+  reached_found : (start : State) (states : List State) (n : ℕ) (m : Files) → IsReached (StandsFor opens root) root start states n m → IsOneOf opens root (state_at start states n ∷ next_after states n) m
   reached_found start states n m (inl left) = (state_at start states n, here (state_at start states n) (next_after states n), left)
   reached_found start states n m (inr (lt, left)) = (
     state_at start states (n + 1),
@@ -69,7 +73,7 @@ module _ (opens : Opens) (root : Text) where
   after_found : (run : Run) (before : List State) (old new : View) (kept : IsKeptBy opens root run before old new) → StandsForOne opens root (found_after opens root run before old new kept) new
   after_found run before old new (inl none) = none.any_moment.now
   after_found run before old new (inr (command, asked, went)) = λ m im.
-      reached_found went.start (cut_off went.stop (plan_of run.ring command went.body went.start went.events)).states (answered went.stop (plan_of run.ring command went.body went.start went.events)) m (went.at_end m im)
+      reached_found went.start (states_up_to went.stop (plan_of run.ring command went.body went.start went.events)) (answered went.stop (plan_of run.ring command went.body went.start went.events).steps) m (went.at_end m im)
 
   -- what a crash at any moment left, from the start on
   since_start : (P : Files → Type 0) (old new : View) → IsSound old → ((m : Files) → old.images m → P m) → Leaves P old new → (m : Files) → new.left_since old.moment m → P m
@@ -79,7 +83,7 @@ module _ (opens : Opens) (root : Text) where
       → (m : Files) → new.left_since old.moment m → IsOneOf opens root (found_during opens root run before old new kept) m
   during_found run before old new sound stand (inl none) m left = since_start (IsOneOf opens root before) old new sound stand none.any_moment m left
   during_found run before old new sound stand (inr (command, asked, went)) m left =
-      let passed = (cut_off went.stop (plan_of run.ring command went.body went.start went.events)).states in
+      let passed = states_up_to went.stop (plan_of run.ring command went.body went.start went.events) in
       since_start (IsOneOf opens root (before ++ passed)) old new sound (λ n im. (let first = stand n im in (first.0, Contains-append_left before passed first.0 first.1, first.2))) went.any_moment m left
 
   pub history_found : {D : Type 0} (disks : DiskMeaning D) → ((disk : D) → IsSound (disks.view disk)) → (first states : List State) (disk : D) → History disks opens root first states disk → StandsForOne opens root states (disks.view disk)
@@ -93,13 +97,13 @@ module _ (opens : Opens) (root : Text) where
 
   -- ---- each secret stays made for its ids
 
-  went_kept : (plan : Plan) (stop : Option Stop) (start : State) (before : List State) → AreAllKept before → Contains before start → AreAllKept plan.states → AreAllKept (state_at start (cut_off stop plan).states (answered stop plan) ∷ next_after (cut_off stop plan).states (answered stop plan))
-  went_kept plan stop start before kept from all = head_kept (state_at start (cut_off stop plan).states (answered stop plan)) (next_after (cut_off stop plan).states (answered stop plan))
-      (elim (start_or start (cut_off stop plan).states (answered stop plan)) [
+  went_kept : (plan : Plan State) (stop : Option Stop) (start : State) (before : List State) → AreAllKept before → Contains before start → AreAllKept (states_of plan.steps) → AreAllKept (state_at start (states_up_to stop plan) (answered stop plan.steps) ∷ next_after (states_up_to stop plan) (answered stop plan.steps))
+  went_kept plan stop start before kept from all = head_kept (state_at start (states_up_to stop plan) (answered stop plan.steps)) (next_after (states_up_to stop plan) (answered stop plan.steps))
+      (elim (start_or start (states_up_to stop plan) (answered stop plan.steps)) [
         | inl same ↦ subst (λ (s : State). IsKept s) (sym same) (kept start from)
-        | inr has ↦ all (state_at start (cut_off stop plan).states (answered stop plan)) (cut_has plan stop (state_at start (cut_off stop plan).states (answered stop plan)) has)
+        | inr has ↦ all (state_at start (states_up_to stop plan) (answered stop plan.steps)) (cut_has plan stop (state_at start (states_up_to stop plan) (answered stop plan.steps)) has)
       ])
-      (λ s has. all s (cut_has plan stop s (next_in (cut_off stop plan).states (answered stop plan) s has)))
+      (λ s has. all s (cut_has plan stop s (next_in (states_up_to stop plan) (answered stop plan.steps) s has)))
 
   after_kept : (run : Run) (before : List State) (old new : View) (kept : IsKeptBy opens root run before old new) → AreAllKept before → AreAllKept (found_after opens root run before old new kept)
   after_kept run before old new (inl none) first = first
@@ -109,7 +113,7 @@ module _ (opens : Opens) (root : Text) where
   during_kept : (run : Run) (before : List State) (old new : View) (kept : IsKeptBy opens root run before old new) → AreAllKept before → AreAllKept (found_during opens root run before old new kept)
   during_kept run before old new (inl none) first = first
   during_kept run before old new (inr (command, asked, went)) first = λ s has.
-      elim (Contains-append_cases before (cut_off went.stop (plan_of run.ring command went.body went.start went.events)).states s has) [
+      elim (Contains-append_cases before (states_up_to went.stop (plan_of run.ring command went.body went.start went.events)) s has) [
         | inl was ↦ first s was
         | inr is ↦ plan_kept run.ring command went.body went.start went.events (first went.start went.from) s (cut_has (plan_of run.ring command went.body went.start went.events) went.stop s is)
       ]

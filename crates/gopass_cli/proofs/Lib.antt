@@ -1,8 +1,9 @@
-pub mod Outcomes
+pub mod ResultLemmas
 pub mod PrintLemmas
+pub mod SaidLemmas
 pub mod RingLemmas
 pub mod TurnLemmas
-pub mod AskedLemmas
+pub mod ActionLemmas
 pub mod CauseLemmas
 pub mod RunLemmas
 pub mod ListingLemmas

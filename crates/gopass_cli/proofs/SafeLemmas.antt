@@ -12,6 +12,7 @@ use Rattle.pending_journal.specs.Redo.{IsAlike, IsAtRest, RecoversBy, RecoversTo
 use Rattle.pending_journal.specs.Faults.{HasBadJournal, RefusesVault}
 use Rattle.pending_journal.specs.Recovery.{IsOldOrAlike}
 use Rattle.pending_journal.proofs.PlanLemmas.{one_meaning}
+use Rattle.store_core.specs.Steps.{Answer, answer_up_to, just, states_up_to, stop_outcome}
 use Rattle.store_core.proofs.PerformLemmas.{stands_at_rest}
 use Rattle.cipher_port.specs.Tool.{Opens, Ring}
 use Rattle.command_words.specs.declared.command.Command.{Command}
@@ -24,12 +25,14 @@ use Rattle.pending_journal.specs.declared.fault.VaultFault.TheVariants.{BadJourn
 use Rattle.request_body.specs.declared.body.BodyFault.{BodyFault}
 use Rattle.request_body.specs.declared.body.BodyFault.TheVariants.{Missing, Long, Failed, NoMemory as NoBodyRoom}
 use Rattle.store_core.specs.Plans.{Outcome, Plan}
-use Rattle.gopass_cli.specs.Asked.{subject_of}
+use Rattle.gopass_cli.specs.Actions.{subject_of}
+use Rattle.gopass_cli.specs.declared.status.Status.TheVariants.{BadWords, DiskFailed, NoMemory as OutOfMemory, InputFailed, SinkFailed}
+use Rattle.gopass_cli.specs.Statuses.{code}
 use Rattle.gopass_cli.specs.Said.{Said, said_of, unsaid}
 use Rattle.store_core.specs.Elsewhere.{IsSameElsewhere}
 use Rattle.store_core.specs.Events.{Cause, TheDisk, Memory, Stop}
 use Rattle.store_core.specs.Moment.{Faults, Moment}
-use Rattle.store_core.specs.Performs.{IsPassed, LeftFor, Performs, cut_off, state_at, stop_outcome}
+use Rattle.store_core.specs.Performs.{IsPassed, LeftFor, Performs, state_at}
 use Rattle.request_body.specs.Bodies.{Input}
 use Rattle.gopass_cli.specs.Plan.{plan_of}
 use Rattle.request_body.specs.Given.{IsGiven}
@@ -58,41 +61,41 @@ passed_among before states start n from = elim (start_or start states n) [
 
 -- ---- statuses of a run that begins no command
 
-says_2 : BeginsNone 2
-says_2 = (0, omega arith, refl)
+says_words : BeginsNone (code BadWords)
+says_words = (0, omega arith, refl)
 
-says_12 : BeginsNone 12
-says_12 = (1, omega arith, refl)
+says_disk : BeginsNone (code DiskFailed)
+says_disk = (1, omega arith, refl)
 
-says_14 : BeginsNone 14
-says_14 = (2, omega arith, refl)
+says_memory : BeginsNone (code OutOfMemory)
+says_memory = (2, omega arith, refl)
 
-says_15 : BeginsNone 15
-says_15 = (3, omega arith, refl)
+says_input : BeginsNone (code InputFailed)
+says_input = (3, omega arith, refl)
 
-says_16 : BeginsNone 16
-says_16 = (4, omega arith, refl)
+says_sink : BeginsNone (code SinkFailed)
+says_sink = (4, omega arith, refl)
 
 -- what is said, or want of memory
 pub tells_said : (wanted said : Said) → BeginsNone wanted.status → Says wanted said → BeginsNone said.status
 tells_said wanted said tells (inl is) = subst (λ (s : Said). BeginsNone s.status) (sym is) tells
-tells_said wanted said tells (inr (own, is)) = subst (λ (s : Said). BeginsNone s.status) (sym is) says_14
+tells_said wanted said tells (inr (own, is)) = subst (λ (s : Said). BeginsNone s.status) (sym is) says_memory
 
-pub tells_words : (said wanted : Said) → wanted.status ≡ 2 → Says wanted said → BeginsNone said.status
-tells_words said wanted is says = tells_said wanted said (subst BeginsNone (sym is) says_2) says
+pub tells_words : (said wanted : Said) → wanted.status ≡ code BadWords → Says wanted said → BeginsNone said.status
+tells_words said wanted is says = tells_said wanted said (subst BeginsNone (sym is) says_words) says
 
 pub tells_body : (fault : BodyFault) (said : Said) → Says (body_said fault) said → BeginsNone said.status
-tells_body Missing said says = tells_said (body_said Missing) said says_2 says
-tells_body Long said says = tells_said (body_said Long) said says_15 says
-tells_body Failed said says = tells_said (body_said Failed) said says_15 says
-tells_body NoBodyRoom said says = tells_said (body_said NoBodyRoom) said says_14 says
+tells_body Missing said says = tells_said (body_said Missing) said says_words says
+tells_body Long said says = tells_said (body_said Long) said says_input says
+tells_body Failed said says = tells_said (body_said Failed) said says_input says
+tells_body NoBodyRoom said says = tells_said (body_said NoBodyRoom) said says_memory says
 
 -- files that stand for a state are no reason to refuse a store
 pub tells_store : (fault : StoreFault) (said : Said) → ¬ IsFileFault fault → Says (fault_said fault) said → BeginsNone said.status
 tells_store (BadFile path line) said fits says = absurd (fits tt)
 tells_store (Full limit) said fits says = absurd (fits tt)
-tells_store Disk said fits says = tells_said (fault_said Disk) said says_12 says
-tells_store NoMemory said fits says = tells_said (fault_said NoMemory) said says_14 says
+tells_store Disk said fits says = tells_said (fault_said Disk) said says_disk says
+tells_store NoMemory said fits says = tells_said (fault_said NoMemory) said says_memory says
 
 -- files that stand for some have no bad journal
 no_bad_journal : (root : Text) (files after : Files) → RecoversTo root files after → HasBadJournal root files → ⊥
@@ -102,36 +105,36 @@ no_bad_journal root files after stands (text, there, bad) =
 
 pub tells_vault : (root : Text) (files after : Files) (fault : VaultFault) (said : Said) → RecoversTo root files after → RefusesVault root files fault → Says (vault_said root fault) said → BeginsNone said.status
 tells_vault root files after (BadJournal line) said stands refuses says = absurd (no_bad_journal root files after stands refuses.0)
-tells_vault root files after NoVaultDisk said stands refuses says = tells_said (vault_said root NoVaultDisk) said says_12 says
-tells_vault root files after NoVaultRoom said stands refuses says = tells_said (vault_said root NoVaultRoom) said says_14 says
+tells_vault root files after NoVaultDisk said stands refuses says = tells_said (vault_said root NoVaultDisk) said says_disk says
+tells_vault root files after NoVaultRoom said stands refuses says = tells_said (vault_said root NoVaultRoom) said says_memory says
 
 pub tells_memory : (said : Said) → said ≡ unsaid → BeginsNone said.status
-tells_memory said is = subst (λ (s : Said). BeginsNone s.status) (sym is) says_14
+tells_memory said is = subst (λ (s : Said). BeginsNone s.status) (sym is) says_memory
 
 tells_printed : (said : Said) (status : ℕ) (out out' err err' : Stream) → Prints said status out out' err err' → BeginsNone said.status → BeginsNone status
 tells_printed said status out out' err err' (inl all) tells = subst BeginsNone (sym all.status_is) tells
-tells_printed said status out out' err err' (inr (inl stops)) tells = subst BeginsNone (sym stops.status_is) says_16
-tells_printed said status out out' err err' (inr (inr stops)) tells = subst BeginsNone (sym stops.status_is) says_16
+tells_printed said status out out' err err' (inr (inl stops)) tells = subst BeginsNone (sym stops.status_is) says_sink
+tells_printed said status out out' err err' (inr (inr stops)) tells = subst BeginsNone (sym stops.status_is) says_sink
 
 -- ---- a run that is not stopped
 
-whole_by : (asked : Text) (stop : Option Stop) (plan : Plan) (status : ℕ) → status ≡ (said_of asked (cut_off stop plan).outcome).status → status ≢ 12 → status ≢ 14 → stop ≡ None
-whole_by asked None plan status is disk memory = refl
-whole_by asked (Some stop) plan status is disk memory = absurd (by stop.cause is)
+whole_by : (subject : Text) (stop : Option Stop) (plan : Plan State) (status : ℕ) → status ≡ (said_of subject (answer_up_to stop plan).outcome).status → status ≢ code DiskFailed → status ≢ code OutOfMemory → stop ≡ None
+whole_by subject None plan status is disk memory = refl
+whole_by subject (Some stop) plan status is disk memory = absurd (by stop.cause is)
   where
-    by : (cause : Cause) → status ≡ (said_of asked (stop_outcome cause)).status → ⊥
+    by : (cause : Cause) → status ≡ (said_of subject (stop_outcome cause)).status → ⊥
     by TheDisk e = disk e
     by Memory e = memory e
 
 module _ (opens : Opens) (root : Text) where
-  -- a status that is none of 12, 14 and 16 tells that there was no stop
-  pub went_whole : (ring : Ring) (command : Command) (input : Input) (before : List State) (old new : View) (f0 f1 : Faults) (status : ℕ) → (w : Went opens root ring command input before old new f0 f1 status) → status ≢ 12 → status ≢ 14 → status ≢ 16 → w.stop ≡ None
+  -- a status that tells no fault of the disk or of a sink and no want of memory tells that there was no stop
+  pub went_whole : (ring : Ring) (command : Command) (input : Input) (before : List State) (old new : View) (f0 f1 : Faults) (status : ℕ) → (w : Went opens root ring command input before old new f0 f1 status) → status ≢ code DiskFailed → status ≢ code OutOfMemory → status ≢ code SinkFailed → w.stop ≡ None
   went_whole ring command input before old new f0 f1 status w disk memory sink = whole_by (subject_of command) w.stop (plan_of ring command w.body w.start w.events) status (w.says sink) disk memory
 
   more_states : (before more : List State) (m : Files) → IsOneOf opens root before m → IsOneOf opens root (before ++ more) m
   more_states before more m (state, has, left) = (state, Contains-append_left before more state has, left)
 
-  passed_is_one : (before states : List State) (start : State) → Contains before start → (m : Files) → IsPassed opens root start states m → IsOneOf opens root (before ++ states) m
+  passed_is_one : (before states : List State) (start : State) → Contains before start → (m : Files) → IsPassed (StandsFor opens root) root start states m → IsOneOf opens root (before ++ states) m
   passed_is_one before states start from m (n, within, left) = (state_at start states n, passed_among before states start n from, left)
 
   -- ---- parts of a run that change no state
@@ -147,7 +150,7 @@ module _ (opens : Opens) (root : Text) where
   }
 
   -- a vault at rest in a state
-  pub rest_left : (v : View) (state : State) → IsAtRest root v → StandsFor opens root v.files state → LeftFor opens root state v.files
+  pub rest_left : (v : View) (state : State) → IsAtRest root v → StandsFor opens root v.files state → LeftFor (StandsFor opens root) root state v.files
   rest_left v state rest stands = (v.files, stands_at_rest root v.files rest.none, stands)
 
   pub rest_stands : (before : List State) (v : View) (state : State) → IsAtRest root v → StandsFor opens root v.files state → Contains before state → StandsForOne opens root before v
@@ -166,7 +169,7 @@ module _ (opens : Opens) (root : Text) where
           (first.0, first.1, (first.2.0, subst (RecoversTo root m) same now, first.2.2))
 
   -- the files on the disk stand for the state of the files that are found in a vault at rest
-  pub found_before : (v0 v1 : View) → RecoversTo root v0.files v1.files → IsAtRest root v1 → (s : State) → LeftFor opens root s v1.files → LeftFor opens root s v0.files
+  pub found_before : (v0 v1 : View) → RecoversTo root v0.files v1.files → IsAtRest root v1 → (s : State) → LeftFor (StandsFor opens root) root s v1.files → LeftFor (StandsFor opens root) root s v0.files
   found_before v0 v1 recovers rest s left =
       let same = one_meaning root v1.files v1.files left.0 (stands_at_rest root v1.files rest.none) left.1 in
       (left.0, subst (RecoversTo root v0.files) same recovers, left.2)
@@ -252,7 +255,7 @@ module _ (opens : Opens) (root : Text) where
   unfolding found_before
   safe_after ring command input before v0 v1 v2 f0 f1 f2 status disk tools recovers rest kept first (inl none) = inl (none_then before v0 v1 v2 status recovers rest kept first none)
   safe_after ring command input before v0 v1 v2 f0 f1 f2 status disk tools recovers rest kept first (inr w) =
-      let states = (cut_off w.stop (plan_of ring command w.body w.start w.events)).states in
+      let states = states_up_to w.stop (plan_of ring command w.body w.start w.events) in
       inr (record {
         start = w.start;
         from = w.from;
@@ -261,7 +264,8 @@ module _ (opens : Opens) (root : Text) where
         given = w.given;
         events = w.events;
         stop = w.stop;
-        tied = record { tools = omega (arith, tools, w.tied.tools); disk = λ n e. (let rose = w.tied.disk n e in omega (arith, disk, rose)) };
+        tied = record { tools = omega (arith, tools, w.tied.tools); disk = λ s e is. (let rose = w.tied.disk s e is in omega (arith, disk, rose)) };
+        stops = w.stops;
         says = w.says;
         any_moment = leaves_then (IsOneOf opens root (before ++ states)) v0 v1 v2 (leaves_weaken (IsOneOf opens root before) (IsOneOf opens root (before ++ states)) v0 v1 (more_states before states) first) w.any_moment;
         at_end = w.at_end;
@@ -273,8 +277,8 @@ module _ (opens : Opens) (root : Text) where
       })
 
   -- a command that performs its plan
-  pub went_performs : (ring : Ring) (command : Command) (input : Input) (body : Option Text) (before : List State) (start : State) (old new : Moment) (outcome : Outcome) (said : Said) → said ≡ said_of (subject_of command) outcome → Contains before start → IsAtRest root old.view → StandsFor opens root old.view.files start → IsGiven command input body → (said.status ≢ 12 → said.status ≢ 14 → IsAtRest root new.view)
-      → Performs opens root (plan_of ring command body start) start old new outcome → Went opens root ring command input before old.view new.view old.faults new.faults said.status
+  pub went_performs : (ring : Ring) (command : Command) (input : Input) (body : Option Text) (before : List State) (start : State) (old new : Moment) (outcome : Outcome) (said : Said) → said ≡ said_of (subject_of command) outcome → Contains before start → IsAtRest root old.view → StandsFor opens root old.view.files start → IsGiven command input body → (said.status ≢ code DiskFailed → said.status ≢ code OutOfMemory → IsAtRest root new.view)
+      → Performs (StandsFor opens root) root (plan_of ring command body start) start old new (just outcome) → Went opens root ring command input before old.view new.view old.faults new.faults said.status
   unfolding rest_left
   went_performs ring command input body before start old new outcome said told from rest stands given ends p = record {
     start = start;
@@ -285,20 +289,21 @@ module _ (opens : Opens) (root : Text) where
     events = p.events;
     stop = p.stop;
     tied = p.tied;
-    says = λ sink. ap (λ (s : Said). s.status) (told ∙ ap (said_of (subject_of command)) p.is);
-    any_moment = leaves_weaken (IsPassed opens root start (cut_off p.stop (plan_of ring command body start p.events)).states) (IsOneOf opens root (before ++ (cut_off p.stop (plan_of ring command body start p.events)).states)) old.view new.view
-        (passed_is_one before (cut_off p.stop (plan_of ring command body start p.events)).states start from) p.goes.any_moment;
-    at_end = p.goes.at_end;
+    stops = p.walks.stops;
+    says = λ sink. ap (λ (s : Said). s.status) (told ∙ ap (λ (a : Answer). said_of (subject_of command) a.outcome) p.is);
+    any_moment = leaves_weaken (IsPassed (StandsFor opens root) root start (states_up_to p.stop (plan_of ring command body start p.events))) (IsOneOf opens root (before ++ (states_up_to p.stop (plan_of ring command body start p.events)))) old.view new.view
+        (passed_is_one before (states_up_to p.stop (plan_of ring command body start p.events)) start from) p.walks.goes.any_moment;
+    at_end = p.walks.goes.at_end;
     others = record {
       any_moment = leaves_weaken (IsSameElsewhere root (plan_of ring command body start p.events).changes old.view.files) (IsOldOrElsewhere root (plan_of ring command body start p.events).changes old.view old.view.files) old.view new.view
-          (λ m same. inr same) p.elsewhere;
-      at_end = p.elsewhere.now;
+          (λ m same. inr same) p.elsewhere.images;
+      at_end = p.elsewhere.images.now;
     };
     at_rest = λ disk memory sink. ends disk memory;
   }
 
-  -- and is printed: a status that is not 16 is that of the answer
-  pub went_printed : (ring : Ring) (command : Command) (input : Input) (before : List State) (v0 v1 : View) (f0 f1 : Faults) (status printed : ℕ) → (printed ≢ 16 → printed ≡ status)
+  -- and is printed: a status that is not that of a sink is that of the answer
+  pub went_printed : (ring : Ring) (command : Command) (input : Input) (before : List State) (v0 v1 : View) (f0 f1 : Faults) (status printed : ℕ) → (printed ≢ code SinkFailed → printed ≡ status)
       → Went opens root ring command input before v0 v1 f0 f1 status → Went opens root ring command input before v0 v1 f0 f1 printed
   went_printed ring command input before v0 v1 f0 f1 status printed same w = record {
     start = w.start;
@@ -309,6 +314,7 @@ module _ (opens : Opens) (root : Text) where
     events = w.events;
     stop = w.stop;
     tied = w.tied;
+    stops = w.stops;
     says = λ sink. (let is = same sink in is ∙ w.says (λ e. sink (is ∙ e)));
     any_moment = w.any_moment;
     at_end = w.at_end;

@@ -6,6 +6,7 @@ use Rattle.std.proofs.lemmas.List.Sums.{sum_by-set, get_or-le-sum_by}
 use Rattle.gopass_base.specs.Text.{Text}
 use Rattle.disk_model.specs.declared.disk.Disk.{Ghosts}
 use Rattle.cipher_port.specs.Tool.{Opens, Ring, ToolMeaning}
+use Rattle.store_core.specs.Steps.{just}
 use Rattle.store_core.specs.declared.store.Store.{Store}
 use Rattle.pending_journal.specs.Redo.{IsAtRest}
 use Rattle.store_state.specs.State.{State, StandsFor}
@@ -19,12 +20,12 @@ use Rattle.store_core.specs.Does.{Does, Keeps}
 use Rattle.store_core.specs.Performs.{Performs}
 use Rattle.store_core.proofs.PerformLemmas.{still_same, calm_tied, quiet, quiet_stop, wants_memory}
 use Rattle.command_words.specs.declared.command.Command.{Command}
-use Rattle.gopass_cli.specs.declared.asked.Asked.{Asked}
-use Rattle.gopass_cli.specs.Asked.{asked_by, subject_by, subject_of}
+use Rattle.gopass_cli.specs.declared.action.Action.{Action}
+use Rattle.gopass_cli.specs.Actions.{action_of, subject_by, subject_of}
 use Rattle.gopass_cli.specs.Plan.{body_in, calls_by, most_calls, plan_by, plan_of}
 use Rattle.gopass_cli.specs.Said.{Said, said_of, unsaid}
-use Rattle.gopass_cli.specs.Outcomes.{ComesTo, IsInner, IsOutcomeAbout}
-use Rattle.gopass_cli.specs.Replies.{Answers, IsInnerStatus, Says, said_in}
+use Rattle.gopass_cli.specs.Outcomes.{ComesTo, IsInner, Concerns}
+use Rattle.gopass_cli.specs.Replies.{Turned, IsInnerStatus, Says, said_in}
 use Rattle.gopass_cli.specs.declared.reply.Reply.{Reply}
 
 -- ---- from one tool to all of them
@@ -33,34 +34,38 @@ use Rattle.gopass_cli.specs.declared.reply.Reply.{Reply}
 abbrev pub with_tools : Moment → (faults calls : ℕ) → Moment
 with_tools m faults calls = record m { faults = record { disk = m.faults.disk; tools = faults }; calls = calls }
 
-pub lifts : (opens : Opens) (root : Text) (plan : Events → Plan) (start : State) (old new : Moment) (outcome : Outcome) (a b A B c d C D : ℕ) → A + b ≡ B + a → a ≤ A → C + d ≡ D + c → c ≤ C
-    → Performs opens root plan start (with_tools old a c) (with_tools new b d) outcome → Performs opens root plan start (with_tools old A C) (with_tools new B D) outcome
+pub lifts : (opens : Opens) (root : Text) (plan : Events → Plan State) (start : State) (old new : Moment) (outcome : Outcome) (a b A B c d C D : ℕ) → A + b ≡ B + a → a ≤ A → C + d ≡ D + c → c ≤ C
+    → Performs (StandsFor opens root) root plan start (with_tools old a c) (with_tools new b d) (just outcome) → Performs (StandsFor opens root) root plan start (with_tools old A C) (with_tools new B D) (just outcome)
 lifts opens root plan start old new outcome a b A B c d C D more least calls few p = record {
   events = p.events;
   stop = p.stop;
   tied = record { tools = omega (arith, more, least, p.tied.tools); disk = p.tied.disk };
   is = p.is;
-  goes = record { within = p.goes.within; counted = p.goes.counted; state = p.goes.state; any_moment = p.goes.any_moment; at_end = p.goes.at_end; still = p.goes.still };
+  tells = p.tells;
+  walks = record {
+    stops = p.walks.stops;
+    goes = record { within = p.walks.goes.within; counted = p.walks.goes.counted; state = p.walks.goes.state; any_moment = p.walks.goes.any_moment; at_end = p.walks.goes.at_end; still = p.walks.goes.still };
+  };
   calls = omega (arith, calls, few, p.calls);
-  elsewhere = p.elsewhere;
+  elsewhere = record { images = p.elsewhere.images; files = p.elsewhere.files };
 }
 
 -- ---- what there was no memory for
 
 -- it comes to this, or the command wanted memory behind it
-pub performs_comes : (opens : Opens) (root : Text) (plan : Events → Plan) (start : State) (old new : Moment) (wanted outcome : Outcome) → Performs opens root plan start old new wanted → ComesTo wanted outcome → Performs opens root plan start old new outcome
-performs_comes opens root plan start old new wanted outcome p (inl e) = subst (Performs opens root plan start old new) (sym e) p
-performs_comes opens root plan start old new wanted outcome p (inr e) = subst (Performs opens root plan start old new) (sym e) (wants_memory opens root start plan old new wanted p)
+pub performs_comes : (opens : Opens) (root : Text) (plan : Events → Plan State) (start : State) (old new : Moment) (wanted outcome : Outcome) → Performs (StandsFor opens root) root plan start old new (just wanted) → ComesTo wanted outcome → Performs (StandsFor opens root) root plan start old new (just outcome)
+performs_comes opens root plan start old new wanted outcome p (inl e) = subst (λ (o : Outcome). Performs (StandsFor opens root) root plan start old new (just o)) (sym e) p
+performs_comes opens root plan start old new wanted outcome p (inr e) = subst (λ (o : Outcome). Performs (StandsFor opens root) root plan start old new (just o)) (sym e) (wants_memory (StandsFor opens root) root start plan old new (just wanted) p)
 
-module _ (opens : Opens) (root : Text) (plan : Events → Plan) (start : State) (now : Moment) (stands : StandsFor opens root now.view.files start) (rest : IsAtRest root now.view) where
+module _ (opens : Opens) (root : Text) (plan : Events → Plan State) (start : State) (now : Moment) (stands : StandsFor opens root now.view.files start) (rest : IsAtRest root now.view) where
   -- there was no memory at the start
-  pub wants_first : Performs opens root plan start now now (Refused NoMemory)
-  wants_first = quiet_stop opens root start plan now now stands (still_same root now rest) Memory (λ e. absurd (cc)) (omega arith)
+  pub wants_first : Performs (StandsFor opens root) root plan start now now (just (Refused NoMemory))
+  wants_first = quiet_stop (StandsFor opens root) root start plan now now stands (still_same root now rest) Memory (λ e. absurd (cc)) (omega arith)
 
   -- a command that changes nothing and calls no tool
-  pub only_answers : (wanted outcome : Outcome) → plan calm ≡ answers wanted → ComesTo wanted outcome → Performs opens root plan start now now outcome
+  pub only_answers : (wanted outcome : Outcome) → plan calm ≡ answers wanted → ComesTo wanted outcome → Performs (StandsFor opens root) root plan start now now (just outcome)
   only_answers wanted outcome is comes = performs_comes opens root plan start now now wanted outcome
-      (quiet opens root start plan now now stands (still_same root now rest) calm wanted 0 (calm_tied now.faults now.faults (omega arith)) (omega arith) is) comes
+      (quiet (StandsFor opens root) root start plan now now stands (still_same root now rest) calm wanted 0 (calm_tied now.faults now.faults (omega arith)) (omega arith) is) comes
 
 -- ---- the first of the tools is called
 
@@ -71,13 +76,13 @@ module _ {D C : Type 0} {G : Ghosts D} (meaning : ToolMeaning C) (old new : Stor
   sum_has : (f : C → ℕ) → f tool ≤ sum_by f tools
   sum_has f = subst (λ (t : C). f t ≤ sum_by f tools) (sym first) (get_or-le-sum_by f tools 0 tool some)
 
-  pub lifts_performs : (opens : Opens) (root : Text) (plan : Events → Plan) (start : State) (outcome : Outcome) → Performs opens root plan start (moment_of old (one_tool meaning tool)) (moment_of new (one_tool meaning now)) outcome
-      → Performs opens root plan start (moment_of old (all_tools meaning tools)) (moment_of new (all_tools meaning (set tools 0 now))) outcome
+  pub lifts_performs : (opens : Opens) (root : Text) (plan : Events → Plan State) (start : State) (outcome : Outcome) → Performs (StandsFor opens root) root plan start (moment_of old (one_tool meaning tool)) (moment_of new (one_tool meaning now)) (just outcome)
+      → Performs (StandsFor opens root) root plan start (moment_of old (all_tools meaning tools)) (moment_of new (all_tools meaning (set tools 0 now))) (just outcome)
   lifts_performs opens root plan start outcome p = lifts opens root plan start (moment_of old (one_tool meaning tool)) (moment_of new (one_tool meaning now)) outcome
       (meaning.faults tool) (meaning.faults now) (sum_by meaning.faults tools) (sum_by meaning.faults (set tools 0 now)) (meaning.calls tool) (meaning.calls now) (sum_by meaning.calls tools) (sum_by meaning.calls (set tools 0 now))
       (sum_moves meaning.faults) (sum_has meaning.faults) (sum_moves meaning.calls) (sum_has meaning.calls) p
 
-  pub lifts_does : (plan : Ring → State → Events → Plan) (outcome : Outcome) → Does plan old new (one_tool meaning tool) (one_tool meaning now) outcome → Does plan old new (all_tools meaning tools) (all_tools meaning (set tools 0 now)) outcome
+  pub lifts_does : (plan : Ring → State → Events → Plan State) (outcome : Outcome) → Does plan old new (one_tool meaning tool) (one_tool meaning now) (just outcome) → Does plan old new (all_tools meaning tools) (all_tools meaning (set tools 0 now)) (just outcome)
   lifts_does plan outcome does told tells ring have start s =
       lifts_performs meaning.opens old.vault.root (plan ring start) start outcome (does told tells ring (subst (λ (t : C). meaning.ring t ≡ ring) (sym first) (have 0 tool some)) start s)
 
@@ -100,15 +105,15 @@ module _ {D C : Type 0} {G : Ghosts D} (meaning : ToolMeaning C) (old new : Stor
 -- ---- what is told
 
 -- a refusal about a name, as an outcome
-pub about_by : {T : Type 0} (name : Text) (printed : T → Text) (answer : Result T Refusal) → IfErr answer (IsAbout name) → IsOutcomeAbout name (outcome_by printed answer)
+pub about_by : {T : Type 0} (name : Text) (printed : T → Text) (answer : Result T Refusal) → IfErr answer (IsAbout name) → Concerns name (outcome_by printed answer)
 about_by name printed (Ok x) about = tt
 about_by name printed (Err refusal) about = about
 
 -- an outcome whose status tells no fault of the outside tells none
-inner_status : (asked : Text) (outcome : Outcome) → IsInnerStatus (said_of asked outcome).status → IsInner outcome
-inner_status asked outcome own = record {
-  no_tool = λ name e. own.no_tool (ap (λ (o : Outcome). (said_of asked o).status) e);
-  no_disk = λ e. own.no_disk (ap (λ (o : Outcome). (said_of asked o).status) e);
+inner_status : (subject : Text) (outcome : Outcome) → IsInnerStatus (said_of subject outcome).status → IsInner outcome
+inner_status subject outcome own = record {
+  no_tool = λ name e. own.no_tool (ap (λ (o : Outcome). (said_of subject o).status) e);
+  no_disk = λ e. own.no_disk (ap (λ (o : Outcome). (said_of subject o).status) e);
 }
 
 -- what holds of an outcome that tells no fault holds of want of memory in its place
@@ -141,13 +146,13 @@ keeps_memory most old new before after outcome k own = record {
     other_fault refusal is other = other (ap why is)
 
 -- a reply that says what a command came to, or that there was no memory for it
-pub answers_says : {D : Type 0} {G : Ghosts D} (plan : Ring → State → Events → Plan) (most : ℕ) (asked : Text) (old new : Store D G) (before after : Tools) (outcome : Outcome) (reply : Reply)
-    → Does plan old new before after outcome → Keeps most old new before after outcome → Says (said_of asked outcome) (said_in reply) → Answers plan most asked old new before after reply
-answers_says plan most asked old new before after outcome reply does keeps (inl e) = record { outcome = outcome; planned = does; keeps = keeps; says = e }
-answers_says plan most asked old new before after outcome reply does keeps (inr (own, e)) = record {
+pub turned_says : {D : Type 0} {G : Ghosts D} (plan : Ring → State → Events → Plan State) (most : ℕ) (subject : Text) (old new : Store D G) (before after : Tools) (outcome : Outcome) (reply : Reply)
+    → Does plan old new before after (just outcome) → Keeps most old new before after outcome → Says (said_of subject outcome) (said_in reply) → Turned plan most subject old new before after reply
+turned_says plan most subject old new before after outcome reply does keeps (inl e) = record { outcome = outcome; planned = does; keeps = keeps; says = e }
+turned_says plan most subject old new before after outcome reply does keeps (inr (own, e)) = record {
   outcome = Refused NoMemory;
-  planned = λ told tells ring have start s. wants_memory before.opens old.vault.root start (plan ring start) (moment_of old before) (moment_of new after) outcome (does told tells ring have start s);
-  keeps = keeps_memory most old new before after outcome keeps (inner_status asked outcome own);
+  planned = λ told tells ring have start s. wants_memory (StandsFor before.opens old.vault.root) old.vault.root start (plan ring start) (moment_of old before) (moment_of new after) (just outcome) (does told tells ring have start s);
+  keeps = keeps_memory most old new before after outcome keeps (inner_status subject outcome own);
   says = e;
 }
 
@@ -165,11 +170,11 @@ keeps_same most store tools outcome free own = record {
 }
 
 -- a command of which a word names nothing, or for the words of which there was no memory
-pub answers_misread : {D : Type 0} {G : Ghosts D} (command : Command) (body : Option Text) (store : Store D G) (tools : Tools) (outcome : Outcome) (reply : Reply)
+pub turned_misread : {D : Type 0} {G : Ghosts D} (command : Command) (body : Option Text) (store : Store D G) (tools : Tools) (outcome : Outcome) (reply : Reply)
     → (G.meaning.tells → IsAtRest store.vault.root (G.meaning.view store.vault.disk)) → IsFalse store.vault.stuck → IsInner outcome
-    → (outcome ≡ Refused NoMemory) ⊎ (asked_by command ≡ Err outcome) → Says (said_of [] outcome) (said_in reply)
-    → Answers (λ ring. plan_of ring command body) (most_calls command) (subject_of command) store store tools tools reply
-answers_misread {G = G} command body store tools outcome reply rest free own (inl none) says = record {
+    → (outcome ≡ Refused NoMemory) ⊎ (action_of command ≡ Err outcome) → Says (said_of [] outcome) (said_in reply)
+    → Turned (λ ring. plan_of ring command body) (most_calls command) (subject_of command) store store tools tools reply
+turned_misread {G = G} command body store tools outcome reply rest free own (inl none) says = record {
   outcome = Refused NoMemory;
   planned = λ told tells ring have start s. wants_first tools.opens store.vault.root (plan_of ring command body start) start (moment_of store tools) s (rest told);
   keeps = keeps_same (most_calls command) store tools (Refused NoMemory) free (subst IsInner none own);
@@ -179,8 +184,8 @@ answers_misread {G = G} command body store tools outcome reply rest free own (in
     no_memory_said : (said : Said) → Says unsaid said → said ≡ unsaid
     no_memory_said said (inl e) = e
     no_memory_said said (inr (_, e)) = e
-answers_misread {G = G} command body store tools outcome reply rest free own (inr bad) says =
-    subst (λ (read : Result Asked Outcome). Answers (λ ring. plan_by ring read (body_in body)) (calls_by read) (subject_by read) store store tools tools reply) (sym bad)
-    (answers_says (λ ring. plan_by ring (Err outcome) (body_in body)) 0 [] store store tools tools outcome reply
+turned_misread {G = G} command body store tools outcome reply rest free own (inr bad) says =
+    subst (λ (read : Result Action Outcome). Turned (λ ring. plan_by ring read (body_in body)) (calls_by read) (subject_by read) store store tools tools reply) (sym bad)
+    (turned_says (λ ring. plan_by ring (Err outcome) (body_in body)) 0 [] store store tools tools outcome reply
     (λ told tells ring have start s. only_answers tools.opens store.vault.root (plan_by ring (Err outcome) (body_in body) start) start (moment_of store tools) s (rest told) outcome outcome refl (inl refl))
     (keeps_same 0 store tools outcome free own) says)

@@ -1,7 +1,7 @@
 -- Whom a run asks, by its words.
 use Rattle.std.specs.Prelude.{◌≡◌, ◌⊎◌, ℕ, ◌+◌, ◌≤◌, true, List, Ok}
 use Rattle.gopass_base.specs.Text.{Text}
-use Rattle.command_words.specs.Said.{asked_by}
+use Rattle.command_words.specs.Invocations.{invocation_of}
 use Rattle.command_words.specs.Words.{words_in}
 use Rattle.command_words.specs.declared.command.Command.{Command}
 use Rattle.request_body.specs.Given.{takes_body}
@@ -9,7 +9,7 @@ use Rattle.gopass_cli.specs.Plan.{most_calls}
 
 -- the words give this command
 abbrev pub GiveCommand : List Text → Command → Type 0
-GiveCommand words command = words_in words ≡ Ok (asked_by command)
+GiveCommand words command = words_in words ≡ Ok (invocation_of command)
 
 -- no tool is called, or the words give a command, and tools are called no more often than it may
 abbrev pub CallsTools : List Text → (before now : ℕ) → Type 0

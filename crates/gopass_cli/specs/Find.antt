@@ -13,5 +13,5 @@ hits [] = NoHit
 hits (b ∷ lines) = Done (b ∷ lines)
 
 -- `find` prints the names of the secrets that have the text
-abbrev pub plan_find : Text → State → Plan
+abbrev pub plan_find : Text → State → Plan State
 plan_find text state = answers (hits (on_lines (names_with text (names_of state))))

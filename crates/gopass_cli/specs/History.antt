@@ -6,8 +6,9 @@ use Rattle.disk_model.specs.Files.{Files}
 use Rattle.disk_model.specs.Disk.{View, DiskMeaning, IsDurable}
 use Rattle.cipher_port.specs.Tool.{Opens, Ring}
 use Rattle.store_state.specs.State.{State}
+use Rattle.store_core.specs.Steps.{answered, states_up_to}
 use Rattle.store_core.specs.Moment.{Faults}
-use Rattle.store_core.specs.Performs.{answered, cut_off, state_at}
+use Rattle.store_core.specs.Performs.{state_at}
 use Rattle.request_body.specs.Bodies.{Input}
 use Rattle.gopass_cli.specs.Plan.{plan_of}
 use Rattle.gopass_cli.specs.Safe.{IsSafeRun, StandsForOne}
@@ -37,12 +38,12 @@ abbrev pub found_after : (opens : Opens) (root : Text) (run : Run) (before : Lis
 found_after opens root run before old new (inl none) = before
 found_after opens root run before old new (inr (command, asked, went)) =
     let plan = plan_of run.ring command went.body went.start went.events in
-    state_at went.start (cut_off went.stop plan).states (answered went.stop plan) ∷ next_after (cut_off went.stop plan).states (answered went.stop plan)
+    state_at went.start (states_up_to went.stop plan) (answered went.stop plan.steps) ∷ next_after (states_up_to went.stop plan) (answered went.stop plan.steps)
 
 -- what may be found on the disk that a crash of the run left: a state from before, or one that it passed
 abbrev pub found_during : (opens : Opens) (root : Text) (run : Run) (before : List State) (old new : View) → IsKeptBy opens root run before old new → List State
 found_during opens root run before old new (inl none) = before
-found_during opens root run before old new (inr (command, asked, went)) = before ++ (cut_off went.stop (plan_of run.ring command went.body went.start went.events)).states
+found_during opens root run before old new (inr (command, asked, went)) = before ++ states_up_to went.stop (plan_of run.ring command went.body went.start went.events)
 
 -- the states that may be found on a disk after runs: at first those for which it stood, and then what each run made of it. A
 -- disk that begins with what a crash between two runs left has the same

@@ -2,7 +2,7 @@ pub mod Statuses
 pub mod Texts
 pub mod Said
 pub mod Outcomes
-pub mod Asked
+pub mod Actions
 pub mod Ls
 pub mod Find
 pub mod Mounts
@@ -17,5 +17,6 @@ pub mod Opening
 pub mod Run
 pub mod Printed
 pub mod Causes
+pub mod Owed
 pub mod Ran
 pub mod History

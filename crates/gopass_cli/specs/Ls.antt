@@ -25,5 +25,5 @@ list_folder flat folder names mounts =
     if holds_one folder names || is_alias mounts folder then Done (listed flat folder (rows_under folder names)) else Refused NotFound
 
 -- `ls` lists the secrets of a folder
-abbrev pub plan_ls : Text → Bool → State → Plan
+abbrev pub plan_ls : Text → Bool → State → Plan State
 plan_ls folder flat state = answers (list_folder flat folder (names_of state) state.mounts)

@@ -3,6 +3,8 @@ use Rattle.std.specs.Prelude.{◌≡◌, ◌⊎◌, ◌==◌, ℕ, codes, Option
 use Rattle.gopass_base.specs.Text.{Text}
 use Rattle.gopass_base.specs.Faults.{Rose}
 use Rattle.io_ports.specs.Sink.{SinkMeaning, Took, TookPart}
+use Rattle.gopass_cli.specs.declared.status.Status.TheVariants.{NoMemory, SinkFailed}
+use Rattle.gopass_cli.specs.Statuses.{code}
 use Rattle.gopass_cli.specs.Said.{Said}
 use Rattle.gopass_cli.specs.Texts.{err_line}
 
@@ -16,7 +18,7 @@ stream_of meaning sink = record { held = meaning.held sink; faults = meaning.fau
 
 -- the answer as it is printed: that of want of memory has a line that needs none
 abbrev pub printed : Said → Said
-printed said = record said { err = if said.status == 14 then err_line (codes "out of memory") else said.err }
+printed said = record said { err = if said.status == code NoMemory then err_line (codes "out of memory") else said.err }
 
 -- a call of the sink failed, and it took a first part of the bytes
 pub record Stops (old new : Stream) (bytes : Text) : Type 0 where
@@ -31,13 +33,13 @@ pub record PrintsAll (said : Said) (status : ℕ) (out out' err err' : Stream) :
 
 -- standard output failed, and standard error was not begun
 pub record StopsAtOut (said : Said) (status : ℕ) (out out' err err' : Stream) : Type 0 where
-  pub status_is : status ≡ 16
+  pub status_is : status ≡ code SinkFailed
   pub stops : Stops out out' said.out
   pub rests : err'.held ≡ err.held
 
 -- standard error failed behind all of standard output
 pub record StopsAtErr (said : Said) (status : ℕ) (out out' err err' : Stream) : Type 0 where
-  pub status_is : status ≡ 16
+  pub status_is : status ≡ code SinkFailed
   pub took_out : Took out.held out'.held said.out
   pub stops : Stops err err' said.err
 

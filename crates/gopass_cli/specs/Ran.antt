@@ -8,6 +8,8 @@ use Rattle.io_ports.specs.Source.{SourceMeaning, Told}
 use Rattle.store_state.specs.State.{State}
 use Rattle.store_core.specs.Events.{calm}
 use Rattle.store_core.specs.Moment.{HaveRing}
+use Rattle.gopass_cli.specs.declared.status.Status.TheVariants.{NoMemory}
+use Rattle.gopass_cli.specs.Statuses.{code}
 use Rattle.gopass_cli.specs.Said.{Said}
 use Rattle.request_body.specs.Bodies.{IsOver, input_of}
 use Rattle.command_words.specs.Words.{words_in}
@@ -77,7 +79,7 @@ module _ {D C S O E : Type 0} (means : Meanings D C S O E) where
   -- where nothing failed either, and there was memory: the run says what is defined where nothing fails, and all of it is printed
   abbrev pub RanCalmly : List Text → Text → (old new : Outside D C S O E) → ℕ → Type 0
   RanCalmly words root old new status = IfTold old (λ ring.
-      NoneRose (all_faults old) (all_faults new) → status ≢ 14 →
+      NoneRose (all_faults old) (all_faults new) → status ≢ code NoMemory →
       (said : Said)
       × RunSays words means.tool.opens root (means.disk.view old.disk).files (input_of means.input old.input new.input) ring calm said
       × PrintsAll (printed said) status (stream_of means.out old.out) (stream_of means.out new.out) (stream_of means.err old.err) (stream_of means.err new.err))

@@ -4,5 +4,5 @@ use Rattle.store_state.specs.State.{State}
 use Rattle.store_core.specs.Plans.{Done, Plan, answers}
 
 -- `recipients` prints the folders that have a rule, each with its ids
-abbrev pub plan_recipients : State → Plan
+abbrev pub plan_recipients : State → Plan State
 plan_recipients state = answers (Done (recipients_listing state.rules))

@@ -4,11 +4,14 @@ use Rattle.gopass_base.specs.Text.{Text}
 use Rattle.disk_model.specs.declared.disk.Disk.{Ghosts}
 use Rattle.cipher_port.specs.Tool.{Ring}
 use Rattle.store_state.specs.State.{State}
+use Rattle.store_core.specs.Steps.{just}
 use Rattle.store_core.specs.declared.store.Store.{Store}
 use Rattle.store_core.specs.Events.{Events}
 use Rattle.store_core.specs.Moment.{Tools}
 use Rattle.store_core.specs.Plans.{Outcome, Plan}
 use Rattle.store_core.specs.Does.{Does, Keeps}
+use Rattle.gopass_cli.specs.declared.status.Status.TheVariants.{ToolFailed, DiskFailed, InputFailed, SinkFailed}
+use Rattle.gopass_cli.specs.Statuses.{code}
 use Rattle.gopass_cli.specs.Said.{Said, said_of, unsaid}
 use Rattle.gopass_cli.specs.declared.reply.Reply.{Reply}
 
@@ -17,19 +20,19 @@ said_in reply = record { status = reply.status; out = reply.out.items; err = rep
 
 -- the status tells no fault of the outside
 pub record IsInnerStatus (status : ℕ) : Type 0 where
-  pub no_tool : status ≢ 11
-  pub no_disk : status ≢ 12
-  pub no_input : status ≢ 15
-  pub no_sink : status ≢ 16
+  pub no_tool : status ≢ code ToolFailed
+  pub no_disk : status ≢ code DiskFailed
+  pub no_input : status ≢ code InputFailed
+  pub no_sink : status ≢ code SinkFailed
 
 -- this is said, or there was no memory for it; a fault of the outside is said in any case
 abbrev pub Says : Said → Said → Type 0
 Says wanted said = (said ≡ wanted) ⊎ (IsInnerStatus wanted.status × (said ≡ unsaid))
 
--- a command on a store, which was asked for this, came to an outcome, and the reply says it. Where disk and tools tell, it is
+-- a command about this subject came to an outcome on a store, and the reply says it. Where disk and tools tell, it is
 -- what was planned; told or not, it has its causes, and tools are called so often at most
-pub record Answers {D : Type 0} {G : Ghosts D} (plan : Ring → State → Events → Plan) (most : ℕ) (asked : Text) (old new : Store D G) (before after : Tools) (reply : Reply) : Type 0 where
+pub record Turned {D : Type 0} {G : Ghosts D} (plan : Ring → State → Events → Plan State) (most : ℕ) (subject : Text) (old new : Store D G) (before after : Tools) (reply : Reply) : Type 0 where
   pub outcome : Outcome
-  pub planned : Does plan old new before after outcome
+  pub planned : Does plan old new before after (just outcome)
   pub keeps : Keeps most old new before after outcome
-  pub says : said_in reply ≡ said_of asked outcome
+  pub says : said_in reply ≡ said_of subject outcome

@@ -4,7 +4,7 @@ use Rattle.gopass_base.specs.Text.{Text}
 use Rattle.disk_model.specs.Files.{Files}
 use Rattle.disk_model.specs.Disk.{DiskMeaning}
 use Rattle.cipher_port.specs.Tool.{Opens, Ring, ToolMeaning}
-use Rattle.command_words.specs.Said.{Asked, asked_by}
+use Rattle.command_words.specs.Invocations.{Invocation, invocation_of}
 use Rattle.command_words.specs.Words.{words_in}
 use Rattle.command_words.specs.declared.command.Command.{Command}
 use Rattle.gopass_cli.specs.declared.status.Status.TheVariants.{BadWords}
@@ -18,9 +18,9 @@ use Rattle.request_body.specs.Given.{IsLeft}
 use Rattle.gopass_cli.specs.Opening.{SaysOfCommand}
 
 -- what is said of the command that the words give, or of the first word that is bad
-abbrev pub SaysOfWords : Result Asked ℕ → Opens → Text → Files → Input → Ring → Events → Said → Type 0
+abbrev pub SaysOfWords : Result Invocation ℕ → Opens → Text → Files → Input → Ring → Events → Said → Type 0
 SaysOfWords (Err at) opens root files input ring events said = (said ≡ refused BadWords (bad_words at)) × IsLeft input
-SaysOfWords (Ok asked) opens root files input ring events said = (command : Command) × (asked ≡ asked_by command) × SaysOfCommand opens root files input ring command events said
+SaysOfWords (Ok invocation) opens root files input ring events said = (command : Command) × (invocation ≡ invocation_of command) × SaysOfCommand opens root files input ring command events said
 
 -- what a run says for these words on these files, in the order: words, opening, the body, and the plan of the command
 abbrev pub RunSays : List Text → Opens → Text → Files → Input → Ring → Events → Said → Type 0

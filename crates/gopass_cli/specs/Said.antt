@@ -1,11 +1,11 @@
 -- What is said of what a command comes to.
-use Rattle.std.specs.Prelude.{ℕ, ◌==◌, [], codes, if◌then◌else◌}
+use Rattle.std.specs.Prelude.{ℕ, [], codes}
 use Rattle.gopass_base.specs.Text.{Text}
+use Rattle.store_core.specs.Steps.{stop_outcome}
 use Rattle.store_core.specs.declared.refusal.Refusal.{Refusal}
 use Rattle.store_core.specs.declared.refusal.Refusal.TheVariants.{NotFound, IsFolder, Exists, NoRule, Full, UnknownId, NoKey, NotSealed, Tool, Disk, NoMemory}
 use Rattle.store_core.specs.Plans.{Outcome, Done, NoHit, Misnamed, Refused}
 use Rattle.store_core.specs.Events.{Cause}
-use Rattle.store_core.specs.Performs.{stop_outcome}
 use Rattle.gopass_cli.specs.declared.status.Status.{Status}
 use Rattle.gopass_cli.specs.declared.status.Status.TheVariants as status
 use Rattle.gopass_cli.specs.Statuses.{code, status_of}
@@ -32,30 +32,31 @@ silent status = record { status = code status; out = []; err = [] }
 abbrev pub unsaid : Said
 unsaid = silent status.NoMemory
 
--- the text of a refusal, where the command was asked for this
+-- the text of a refusal of a command about this subject
 abbrev pub refusal_text : Text → Refusal → Text
-refusal_text asked NotFound = not_in_the_store asked
-refusal_text asked IsFolder = is_a_folder asked
-refusal_text asked (Exists name) = is_there_already name
-refusal_text asked (NoRule name) = no_rule_for name
-refusal_text asked (UnknownId id) = not_known id
-refusal_text asked (Full limit) = limit_passed limit
-refusal_text asked (NoKey name) = no_key name
-refusal_text asked (NotSealed name) = not_sealed name
-refusal_text asked (Tool name) = tool_failed name
-refusal_text asked Disk = codes "the disk failed"
-refusal_text asked NoMemory = codes "out of memory"
+refusal_text subject NotFound = not_in_the_store subject
+refusal_text subject IsFolder = is_a_folder subject
+refusal_text subject (Exists name) = is_there_already name
+refusal_text subject (NoRule name) = no_rule_for name
+refusal_text subject (UnknownId id) = not_known id
+refusal_text subject (Full limit) = limit_passed limit
+refusal_text subject (NoKey name) = no_key name
+refusal_text subject (NotSealed name) = not_sealed name
+refusal_text subject (Tool name) = tool_failed name
+refusal_text subject Disk = codes "the disk failed"
+refusal_text subject NoMemory = codes "out of memory"
 
 -- what is said of a refusal; want of memory has no bytes
 abbrev pub refusal_said : Text → Refusal → Said
-refusal_said asked refusal = if code (status_of refusal) == 14 then unsaid else refused (status_of refusal) (refusal_text asked refusal)
+refusal_said subject NoMemory = unsaid
+refusal_said subject refusal = refused (status_of refusal) (refusal_text subject refusal)
 
--- what is said of an outcome
+-- what is said of an outcome of a command about this subject
 abbrev pub said_of : Text → Outcome → Said
-said_of asked (Done bytes) = granted bytes
-said_of asked NoHit = silent status.NoHit
-said_of asked (Misnamed word at) = refused status.BadWords (bad_name at word)
-said_of asked (Refused refusal) = refusal_said asked refusal
+said_of subject (Done bytes) = granted bytes
+said_of subject NoHit = silent status.NoHit
+said_of subject (Misnamed word at) = refused status.BadWords (bad_name at word)
+said_of subject (Refused refusal) = refusal_said subject refusal
 
 -- what is said where a fault stopped the turn
 abbrev pub stop_said : Cause → Said

@@ -8,10 +8,12 @@ ghost use Rattle.cipher_port.specs.Tool.{Ring};
 ghost use Rattle.store_state.specs.State.{State, StandsFor};
 ghost use Rattle.store_core.specs.Moment.{HaveRing};
 ghost use Rattle.gopass_cli.specs.Opening.{SaysOfCommand, fault_said, vault_said};
-ghost use Rattle.gopass_cli.specs.Asked.{subject_of};
+ghost use Rattle.gopass_cli.specs.Actions.{subject_of};
 ghost use Rattle.gopass_cli.specs.Causes.{HasInputCause, TellsCauses};
 ghost use Rattle.gopass_cli.specs.Said.{said_of};
+ghost use Rattle.gopass_cli.specs.Statuses.{code};
 ghost use Rattle.request_body.specs.Bodies.{Input, input_of};
+ghost use Rattle.gopass_cli.specs.Owed.{Owed, SafeFrom};
 ghost use Rattle.gopass_cli.specs.Plan.{most_calls, plan_of};
 ghost use Rattle.gopass_cli.specs.Asks.{CallsTools, TakesInput};
 ghost use Rattle.command_words.specs.Words.{words_in};
@@ -108,7 +110,7 @@ fn answer_turn<D: Disk + Send, C: Cipher + Send>(
     ensures count { vec_len tools.new ≡ vec_len tools.old }
     ensures causes { TellsCauses (faults_of D.meaning store.vault.disk C.meaning tools.old.items)
         (faults_of D.meaning result.disk C.meaning tools.new.items) result.reply.status }
-    ensures no_input { result.reply.status ≢ 15 }
+    ensures no_input { result.reply.status ≢ code Status.InputFailed }
 {
     let mut store = store;
     let request = Request { command, body };
@@ -135,18 +137,8 @@ fn answer_open<D: Disk + Send, C: Cipher + Send, S: Source>(
     ensures answers { (state : State) → StandsFor C.meaning.opens store.vault.root (D.meaning.view store.vault.disk).files state
         → SaidWhereTold D.meaning C.meaning store.vault.disk result.disk tools.old.items tools.new.items
         (λ ring. SaysOfRequest command (input_of S.meaning input.old input.new) ring state) (said_in result.reply) }
-    ensures safe { (state : State) → StandsFor C.meaning.opens store.vault.root (D.meaning.view store.vault.disk).files state
-        → D.meaning.tells → C.meaning.tells → (ring : Ring) → HaveRing C.meaning tools.old.items ring
-        → (before : List State) → Contains before state
-        → IsSafe C.meaning.opens store.vault.root ring command (input_of S.meaning input.old input.new) before (D.meaning.view store.vault.disk) (D.meaning.view result.disk)
-        (faults_of D.meaning store.vault.disk C.meaning tools.old.items) (faults_of D.meaning result.disk C.meaning tools.new.items) result.reply.status }
-    ensures calls { sum_by C.meaning.calls tools.new.items ≤ sum_by C.meaning.calls tools.old.items + most_calls command }
-    ensures left { takes_body command ≡ false → input.new ≡ input.old }
-    ensures rings { (ring : Ring) → HaveRing C.meaning tools.old.items ring → HaveRing C.meaning tools.new.items ring }
-    ensures count { vec_len tools.new ≡ vec_len tools.old }
-    ensures causes { TellsCauses (faults_of D.meaning store.vault.disk C.meaning tools.old.items)
-        (faults_of D.meaning result.disk C.meaning tools.new.items) result.reply.status }
-    ensures input { HasInputCause (input_of S.meaning input.old input.new) (said_in result.reply) }
+    ensures safe { SafeFrom D.meaning C.meaning store.vault.root command (input_of S.meaning input.old input.new) store.vault.disk result.disk tools.old.items tools.new.items result.reply.status }
+    ensures owed { Owed D.meaning C.meaning S.meaning command store.vault.disk result.disk tools.old.items tools.new.items input.old input.new result.reply }
 {
     match take_body(alloc, &command, input) {
         Ok(body) => answer_turn(alloc, command, body, store, tools),
@@ -173,19 +165,9 @@ fn answer_vault<D: Disk + Send, C: Cipher + Send, S: Source>(
     ensures answers { (files : Files) → RecoversTo vault.root files (D.meaning.view vault.disk).files
         → SaidWhereTold D.meaning C.meaning vault.disk result.disk tools.old.items tools.new.items
         (λ ring. SaysOfCommand C.meaning.opens vault.root files (input_of S.meaning input.old input.new) ring command) (said_in result.reply) }
-    ensures safe { (state : State) → StandsFor C.meaning.opens vault.root (D.meaning.view vault.disk).files state
-        → D.meaning.tells → C.meaning.tells → (ring : Ring) → HaveRing C.meaning tools.old.items ring
-        → (before : List State) → Contains before state
-        → IsSafe C.meaning.opens vault.root ring command (input_of S.meaning input.old input.new) before (D.meaning.view vault.disk) (D.meaning.view result.disk)
-        (faults_of D.meaning vault.disk C.meaning tools.old.items) (faults_of D.meaning result.disk C.meaning tools.new.items) result.reply.status }
+    ensures safe { SafeFrom D.meaning C.meaning vault.root command (input_of S.meaning input.old input.new) vault.disk result.disk tools.old.items tools.new.items result.reply.status }
     ensures kept { D.meaning.tells → KeptOrOpens vault.root (D.meaning.view vault.disk) (D.meaning.view result.disk) }
-    ensures calls { sum_by C.meaning.calls tools.new.items ≤ sum_by C.meaning.calls tools.old.items + most_calls command }
-    ensures left { takes_body command ≡ false → input.new ≡ input.old }
-    ensures rings { (ring : Ring) → HaveRing C.meaning tools.old.items ring → HaveRing C.meaning tools.new.items ring }
-    ensures count { vec_len tools.new ≡ vec_len tools.old }
-    ensures causes { TellsCauses (faults_of D.meaning vault.disk C.meaning tools.old.items)
-        (faults_of D.meaning result.disk C.meaning tools.new.items) result.reply.status }
-    ensures input { HasInputCause (input_of S.meaning input.old input.new) (said_in result.reply) }
+    ensures owed { Owed D.meaning C.meaning S.meaning command vault.disk result.disk tools.old.items tools.new.items input.old input.new result.reply }
 {
     match Store::open(alloc, vault) {
         StoreOpened::Ready(store) => answer_open(alloc, command, lines, store, tools, input),
@@ -221,13 +203,7 @@ fn answer_command<D: Disk + Send, C: Cipher + Send, S: Source>(
         → IsSafe C.meaning.opens root.now ring command (input_of S.meaning input.old input.new) before (D.meaning.view disk) (D.meaning.view result.disk)
         (faults_of D.meaning disk C.meaning tools.old.items) (faults_of D.meaning result.disk C.meaning tools.new.items) result.reply.status }
     ensures kept { D.meaning.tells → KeptOrOpens root.now (D.meaning.view disk) (D.meaning.view result.disk) }
-    ensures calls { sum_by C.meaning.calls tools.new.items ≤ sum_by C.meaning.calls tools.old.items + most_calls command }
-    ensures left { takes_body command ≡ false → input.new ≡ input.old }
-    ensures rings { (ring : Ring) → HaveRing C.meaning tools.old.items ring → HaveRing C.meaning tools.new.items ring }
-    ensures count { vec_len tools.new ≡ vec_len tools.old }
-    ensures causes { TellsCauses (faults_of D.meaning disk C.meaning tools.old.items)
-        (faults_of D.meaning result.disk C.meaning tools.new.items) result.reply.status }
-    ensures input { HasInputCause (input_of S.meaning input.old input.new) (said_in result.reply) }
+    ensures owed { Owed D.meaning C.meaning S.meaning command disk result.disk tools.old.items tools.new.items input.old input.new result.reply }
 {
     files_are_an_image(&disk);
     match Vault::open(alloc, disk, root) {

@@ -4,6 +4,7 @@ ghost use Rattle.std.specs.Prelude.{◌≡◌, ◌≢◌, ℕ, List, Option, Non
 ghost use Rattle.gopass_base.specs.Text.{Text};
 ghost use Rattle.cipher_port.specs.Tool.{Opens, Ring};
 ghost use Rattle.store_state.specs.State.{State};
+ghost use Rattle.store_core.specs.Steps.{states_of};
 ghost use Rattle.store_core.specs.Events.{Events};
 ghost use Rattle.store_core.specs.Kept.{IsKept, AreAllKept};
 ghost use Rattle.disk_model.specs.Files.{Files};
@@ -14,6 +15,8 @@ ghost use Rattle.gopass_cli.specs.Plan.{plan_of};
 ghost use Rattle.request_body.specs.Bodies.{Input};
 ghost use Rattle.store_core.specs.Moment.{Faults};
 ghost use Rattle.gopass_cli.specs.Safe.{StandsForOne, Went};
+ghost use Rattle.gopass_cli.specs.Statuses.{code};
+ghost use Rattle.gopass_cli.specs.declared.status.Status.TheVariants.{DiskFailed, NoMemory, SinkFailed};
 
 use command_words::Command;
 use disk_model::Disk;
@@ -21,15 +24,15 @@ use mount_table::DirPath;
 
 /// A command keeps each secret made for exactly the ids that govern it, in each state that it passes.
 pub fn commands_keep(command: &Command)
-    ensures { (ring : Ring) (body : Option Text) (state : State) (events : Events) → IsKept state → AreAllKept (plan_of ring command.now body state events).states }
+    ensures { (ring : Ring) (body : Option Text) (state : State) (events : Events) → IsKept state → AreAllKept (states_of (plan_of ring command.now body state events).steps) }
 {}
 
-/// A run that went through the plan of its command went through all of it, where its status is none of
-/// 12, 14 and 16.
+/// A run that went through the plan of its command went through all of it, where its status tells no
+/// fault of the disk or of a sink and no want of memory.
 pub fn ended_runs_are_whole<D: Disk>(root: &DirPath, command: &Command)
     ensures { (opens : Opens) (ring : Ring) (input : Input) (before : List State) (old new : D) (faults now_faults : Faults) (status : ℕ)
         → (went : Went opens root.now ring command.now input before (D.meaning.view old) (D.meaning.view new) faults now_faults status)
-        → status ≢ 12 → status ≢ 14 → status ≢ 16 → went.stop ≡ None }
+        → status ≢ code DiskFailed → status ≢ code NoMemory → status ≢ code SinkFailed → went.stop ≡ None }
 {}
 
 /// Runs after one another keep the crash promise, each on the disk that the last one handed back or

@@ -1,8 +1,8 @@
 //! The command line of the store: words in, a status and bytes out.
 #![tactic(auto)]
 
+mod action;
 mod answers;
-mod asked;
 mod laws;
 mod lines;
 mod listing;

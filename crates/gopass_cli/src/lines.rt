@@ -4,11 +4,11 @@
 ghost use Rattle.std.specs.Prelude.{◌≡◌, ◌⊎◌, codes, IfErr, IfOk, Err, Ok};
 ghost use Rattle.store_core.specs.Plans.{Refused};
 ghost use Rattle.store_core.specs.declared.refusal.Refusal.TheVariants as refusal;
-ghost use Rattle.gopass_cli.specs.Asked.{asked_by, subject};
+ghost use Rattle.gopass_cli.specs.Actions.{action_of, subject};
 ghost use Rattle.gopass_cli.specs.Outcomes.{IsInner, meant};
 ghost use Rattle.gopass_cli.specs.Texts.{err_line, tool_failed};
 
-use crate::asked::Asked;
+use crate::action::Action;
 use crate::outcome::{Outcome, no_memory};
 use crate::texts;
 use command_words::Command;
@@ -64,32 +64,32 @@ impl RunLines {
     }
 }
 
-/// What is asked of a store, and the lines of the faults that may be met.
+/// An action, and the lines of the faults that it may meet.
 #[derive(Debug, Drop)]
 pub(crate) struct TurnLines {
-    pub(crate) asked: Asked,
+    pub(crate) action: Action,
     pub(crate) disk: DiskLine,
     pub(crate) tool: Vec<u8>,
-    ghost says: { tool.items ≡ err_line (tool_failed (subject asked)) },
+    ghost says: { tool.items ≡ err_line (tool_failed (subject action)) },
 }
 
 impl TurnLines {
-    fn new(alloc: Global, asked: Asked) -> Result<TurnLines, NoMemory>
-        ensures { IfOk result (λ lines. lines.asked ≡ asked) }
+    fn new(alloc: Global, action: Action) -> Result<TurnLines, NoMemory>
+        ensures { IfOk result (λ lines. lines.action ≡ action) }
     {
         let disk = DiskLine::new(alloc)?;
-        let tool = texts::tool_line(alloc, asked.subject())?;
-        Ok(TurnLines { asked, disk, tool })
+        let tool = texts::tool_line(alloc, action.subject())?;
+        Ok(TurnLines { action, disk, tool })
     }
 
-    /// What the command asks, with its lines.
+    /// The action of the command, with its lines.
     pub(crate) fn read(alloc: Global, command: &Command) -> Result<TurnLines, Outcome>
-        ensures good { IfOk result (λ lines. asked_by command.now ≡ Ok lines.asked) }
-        ensures bad { IfErr result (λ outcome. (meant outcome ≡ Refused refusal.NoMemory) ⊎ (asked_by command.now ≡ Err (meant outcome))) }
+        ensures good { IfOk result (λ lines. action_of command.now ≡ Ok lines.action) }
+        ensures bad { IfErr result (λ outcome. (meant outcome ≡ Refused refusal.NoMemory) ⊎ (action_of command.now ≡ Err (meant outcome))) }
         ensures own { IfErr result (λ outcome. IsInner (meant outcome)) }
     {
-        let asked = Asked::read(alloc, command)?;
-        match TurnLines::new(alloc, asked) {
+        let action = Action::read(alloc, command)?;
+        match TurnLines::new(alloc, action) {
             Ok(lines) => Ok(lines),
             Err(_) => Err(no_memory()),
         }

@@ -6,8 +6,8 @@ ghost use Rattle.mount_table.specs.Prefixes.{Holds};
 ghost use Rattle.store_core.specs.Plans.{Done};
 ghost use Rattle.store_core.specs.Reads.{rows_under};
 ghost use Rattle.store_core.specs.Show.{holds_one};
-ghost use Rattle.gopass_cli.specs.Outcomes.{ComesTo, IsInner, IsOutcomeAbout, meant};
-ghost use Rattle.gopass_cli.specs.Listings.{InState};
+ghost use Rattle.gopass_cli.specs.Outcomes.{ComesTo, IsInner, Concerns, meant};
+ghost use Rattle.gopass_cli.specs.Listings.{Lists};
 ghost use Rattle.gopass_cli.specs.Ls.{is_alias, listed, plan_ls};
 ghost use Rattle.gopass_cli.specs.Find.{hits, plan_find};
 ghost use Rattle.gopass_cli.specs.Mounts.{plan_mounts};
@@ -26,7 +26,7 @@ use text_search::names_with;
 fn print_text(text: Result<Vec<u8>, NoMemory>) -> Outcome
     ensures says { (wanted : Text) → IfOk text (λ t. t.items ≡ wanted) → ComesTo (Done wanted) (meant result) }
     ensures own { IsInner (meant result) }
-    ensures about { (asked : Text) → IsOutcomeAbout asked (meant result) }
+    ensures about { (subject : Text) → Concerns subject (meant result) }
 {
     match text {
         Ok(text) => Outcome::Done(text),
@@ -69,9 +69,7 @@ fn is_there(mounts: &Mounts, folder: &Folder, names: &[Name]) -> bool
 /// `ls FOLDER`: the secrets of the folder.
 pub(crate) fn ls<D: Disk>(alloc: Global, store: &Store<D>, folder: &Folder, flat: bool) -> Outcome
     requires free { IsFalse store.now.vault.stuck }
-    ensures lists { InState store.now (λ state. (plan_ls folder.now flat state).outcome) (meant result) }
-    ensures own { IsInner (meant result) }
-    ensures about { (asked : Text) → IsOutcomeAbout asked (meant result) }
+    ensures { Lists store.now (plan_ls folder.now flat) (meant result) }
 {
     match store.rows_under(folder) {
         Ok(names) => {
@@ -88,7 +86,7 @@ pub(crate) fn ls<D: Disk>(alloc: Global, store: &Store<D>, folder: &Folder, flat
 fn hits(lines: Vec<u8>) -> Outcome
     ensures says { meant result ≡ hits lines.items }
     ensures own { IsInner (meant result) }
-    ensures about { (asked : Text) → IsOutcomeAbout asked (meant result) }
+    ensures about { (subject : Text) → Concerns subject (meant result) }
 {
     if lines.is_empty() {
         return Outcome::NoHit;
@@ -100,7 +98,7 @@ fn hits(lines: Vec<u8>) -> Outcome
 fn print_hits(lines: Result<Vec<u8>, NoMemory>) -> Outcome
     ensures says { (wanted : Text) → IfOk lines (λ l. l.items ≡ wanted) → ComesTo (hits wanted) (meant result) }
     ensures own { IsInner (meant result) }
-    ensures about { (asked : Text) → IsOutcomeAbout asked (meant result) }
+    ensures about { (subject : Text) → Concerns subject (meant result) }
 {
     match lines {
         Ok(lines) => hits(lines),
@@ -111,9 +109,7 @@ fn print_hits(lines: Result<Vec<u8>, NoMemory>) -> Outcome
 /// `find TEXT`: the names of the secrets that have the text.
 pub(crate) fn find<D: Disk>(alloc: Global, store: &Store<D>, text: &str) -> Outcome
     requires free { IsFalse store.now.vault.stuck }
-    ensures lists { InState store.now (λ state. (plan_find text.now state).outcome) (meant result) }
-    ensures own { IsInner (meant result) }
-    ensures about { (asked : Text) → IsOutcomeAbout asked (meant result) }
+    ensures { Lists store.now (plan_find text.now) (meant result) }
 {
     match names_with(alloc, store.names(), text) {
         Ok(names) => print_hits(on_lines(alloc, &names)),
@@ -124,9 +120,7 @@ pub(crate) fn find<D: Disk>(alloc: Global, store: &Store<D>, text: &str) -> Outc
 /// `mounts`: the mounts, a line for each.
 pub(crate) fn mounts<D: Disk>(alloc: Global, store: &Store<D>) -> Outcome
     requires free { IsFalse store.now.vault.stuck }
-    ensures lists { InState store.now (λ state. (plan_mounts state).outcome) (meant result) }
-    ensures own { IsInner (meant result) }
-    ensures about { (asked : Text) → IsOutcomeAbout asked (meant result) }
+    ensures { Lists store.now plan_mounts (meant result) }
 {
     print_text(mounts_text(alloc, store.mounts()))
 }
@@ -134,9 +128,7 @@ pub(crate) fn mounts<D: Disk>(alloc: Global, store: &Store<D>) -> Outcome
 /// `recipients`: the folders that have a rule, each with its ids.
 pub(crate) fn recipients<D: Disk>(alloc: Global, store: &Store<D>) -> Outcome
     requires free { IsFalse store.now.vault.stuck }
-    ensures lists { InState store.now (λ state. (plan_recipients state).outcome) (meant result) }
-    ensures own { IsInner (meant result) }
-    ensures about { (asked : Text) → IsOutcomeAbout asked (meant result) }
+    ensures { Lists store.now plan_recipients (meant result) }
 {
     print_text(recipients_text(alloc, store.rules()))
 }

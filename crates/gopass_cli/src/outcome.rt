@@ -22,7 +22,7 @@ pub(crate) enum Outcome {
 }
 
 /// What the call that gives bytes comes to.
-pub(crate) fn given(answer: Result<Vec<u8>, Refusal>) -> Outcome
+pub(crate) fn of_bytes(answer: Result<Vec<u8>, Refusal>) -> Outcome
     ensures { meant result ≡ outcome_by (λ bytes. bytes.items) answer }
 {
     match answer {
@@ -32,7 +32,7 @@ pub(crate) fn given(answer: Result<Vec<u8>, Refusal>) -> Outcome
 }
 
 /// What the call that gives nothing comes to.
-pub(crate) fn done(alloc: Global, answer: Result<(), Refusal>) -> Outcome
+pub(crate) fn of_nothing(alloc: Global, answer: Result<(), Refusal>) -> Outcome
     ensures { meant result ≡ outcome_by (λ done. []) answer }
 {
     match answer {

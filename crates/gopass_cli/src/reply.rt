@@ -4,8 +4,8 @@ ghost use Rattle.std.specs.Prelude.{◌≡◌, [], IfOk, string_bytes};
 ghost use Rattle.gopass_base.specs.Text.{Text};
 ghost use Rattle.store_core.specs.Events.{TheDisk};
 ghost use Rattle.gopass_cli.specs.declared.status.Status.TheVariants as status;
-ghost use Rattle.gopass_cli.specs.Asked.{subject};
-ghost use Rattle.gopass_cli.specs.Outcomes.{IsInner, IsOutcomeAbout, meant};
+ghost use Rattle.gopass_cli.specs.Actions.{subject};
+ghost use Rattle.gopass_cli.specs.Outcomes.{IsInner, Concerns, meant};
 ghost use Rattle.gopass_cli.specs.Said.{granted, refusal_said, refused, said_of, silent, stop_said, unsaid};
 ghost use Rattle.gopass_cli.specs.Statuses.{code, status_of};
 ghost use Rattle.gopass_cli.specs.Texts.{bad_line, bad_words, limit_passed};
@@ -19,7 +19,7 @@ use std::alloc::{AllocError, Global};
 use store_core::Refusal;
 use store_state::Limit;
 
-/// A status, and the bytes for standard output and standard error. With status 14 there are none.
+/// A status, and the bytes for standard output and standard error. For want of memory there are none.
 #[derive(Debug, Drop)]
 pub struct Reply {
     pub status: u8,
@@ -121,23 +121,22 @@ pub(crate) fn refuse_limit(alloc: Global, limit: Limit) -> Reply
     refuse_with(alloc, Status::LimitPassed, texts::limit_passed(limit))
 }
 
-/// The answer of a command that is refused by what is within, which was asked for this.
-fn refuse(alloc: Global, asked: &str, refusal: &Refusal) -> Reply
+/// The answer of a command about this subject that is refused by what is within.
+fn refuse(alloc: Global, subject: &str, refusal: &Refusal) -> Reply
     requires { IsInnerStatus (code (status_of refusal.now)) }
-    ensures { Says (refusal_said asked.now refusal.now) (said_in result) }
+    ensures { Says (refusal_said subject.now refusal.now) (said_in result) }
 {
     let status = status_of(refusal);
     if status == Status::NoMemory {
         return no_memory(alloc);
     }
-    refuse_by(alloc, status, texts::text_of(alloc, refusal, asked))
+    refuse_by(alloc, status, texts::text_of(alloc, refusal, subject))
 }
 
-/// The answer that tells what a command comes to, which was asked for this. It met no fault of the
-/// outside.
-pub(crate) fn tell_within(alloc: Global, asked: &str, outcome: Outcome) -> Reply
+/// The answer that tells what a command about this subject comes to. It met no fault of the outside.
+pub(crate) fn tell_within(alloc: Global, subject: &str, outcome: Outcome) -> Reply
     requires { IsInner (meant outcome) }
-    ensures { Says (said_of asked.now (meant outcome)) (said_in result) }
+    ensures { Says (said_of subject.now (meant outcome)) (said_in result) }
 {
     match outcome {
         Outcome::Done(bytes) => grant(alloc, bytes),
@@ -146,19 +145,19 @@ pub(crate) fn tell_within(alloc: Global, asked: &str, outcome: Outcome) -> Reply
             let text = texts::bad_name(alloc, at, word.text());
             refuse_by(alloc, Status::BadWords, text)
         }
-        Outcome::Refused(refusal) => refuse(alloc, asked, &refusal),
+        Outcome::Refused(refusal) => refuse(alloc, subject, &refusal),
     }
 }
 
 /// The answer that tells what a command comes to. A fault of the outside is told by the line that is
 /// there for it.
 pub(crate) fn tell(alloc: Global, lines: TurnLines, outcome: Outcome) -> Reply
-    requires { IsOutcomeAbout (subject lines.asked) (meant outcome) }
-    ensures { Says (said_of (subject lines.asked) (meant outcome)) (said_in result) }
+    requires { Concerns (subject lines.action) (meant outcome) }
+    ensures { Says (said_of (subject lines.action) (meant outcome)) (said_in result) }
 {
     match outcome {
         Outcome::Refused(Refusal::Tool(_)) => tell_fault(alloc, Status::ToolFailed, lines.tool),
         Outcome::Refused(Refusal::Disk) => tell_disk(alloc, lines.disk),
-        _ => tell_within(alloc, lines.asked.subject(), outcome),
+        _ => tell_within(alloc, lines.action.subject(), outcome),
     }
 }

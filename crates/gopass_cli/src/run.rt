@@ -63,8 +63,8 @@ pub fn gopass<D: Disk + Send, C: Cipher + Send, S: Source, O: Sink, E: Sink>(
 
     // The crash promise, where disk and tools tell: what a crash leaves at any moment of the run, its
     // opening included, stands for a state before or for one that the plan of the command passes
-    // through, and at the end of one that begins a command for the last one, where the status is none
-    // of 12, 14 and 16. A run that begins none says so by its status. Each file that the plan may not
+    // through, and at the end of one that begins a command for the last one, where the status tells
+    // no fault of the disk or of a sink and no want of memory. A run that begins none says so by its status. Each file that the plan may not
     // change stays as it is, byte for byte; so does each file of a store that does not open.
     ensures safe { RanSafely (meanings D.meaning C.meaning S.meaning O.meaning E.meaning) (map string_bytes words.now) root.now
         (outside disk tools.old.items input.old out.old err.old)
@@ -80,8 +80,7 @@ pub fn gopass<D: Disk + Send, C: Cipher + Send, S: Source, O: Sink, E: Sink>(
     ensures count { vec_len tools.new ≡ vec_len tools.old }
 
     // Told or not, a fault of the outside is answered only where its count rose, and a count rose with
-    // its status alone: 11 for the tools, 12 for the disk, 15 for the input, 16 for a sink, which is
-    // told in place of any other. That the input failed is said only where its count rose.
+    // its status alone; that of a sink is told in place of any other. That the input failed is said only where its count rose.
     ensures causes { RanWithCauses (meanings D.meaning C.meaning S.meaning O.meaning E.meaning)
         (outside disk tools.old.items input.old out.old err.old)
         (outside result.disk tools.new.items input.new out.new err.new) result.status }

@@ -65,13 +65,13 @@ pub(crate) fn limit_passed(limit: Limit) -> &'static str
     }
 }
 
-/// The text of a refusal, where the command was asked for this.
-pub(crate) fn text_of(alloc: Global, refusal: &Refusal, asked: &str) -> Result<String, AllocError>
-    ensures { IfOk result (λ text. string_bytes text ≡ refusal_text asked.now refusal.now) }
+/// The text of a refusal of a command about this subject.
+pub(crate) fn text_of(alloc: Global, refusal: &Refusal, subject: &str) -> Result<String, AllocError>
+    ensures { IfOk result (λ text. string_bytes text ≡ refusal_text subject.now refusal.now) }
 {
     match refusal {
-        Refusal::NotFound => not_in_the_store(alloc, asked),
-        Refusal::IsFolder => joined(alloc, asked, " is a folder"),
+        Refusal::NotFound => not_in_the_store(alloc, subject),
+        Refusal::IsFolder => joined(alloc, subject, " is a folder"),
         Refusal::Exists(name) => joined(alloc, name.text(), " is there already"),
         Refusal::NoRule(name) => joined(alloc, "no rule for ", name.text()),
         Refusal::UnknownId(id) => joined(alloc, id.text(), " is not known to the tool"),

@@ -1,7 +1,7 @@
 use Rattle.std.proofs.Common.{inl, inr, ⊎_elim, refl, sym, subst, map, arith}
 use Rattle.std.specs.Prelude.{ℕ, Result, Ok, Err, string_bytes}
 use Rattle.command_words.specs.declared.reading.WordsFault.{WordsFault}
-use Rattle.command_words.specs.Said.{Asked, asked_by}
+use Rattle.command_words.specs.Invocations.{Invocation, invocation_of}
 use Rattle.command_words.specs.Words.{words_in}
 use Rattle.command_words.specs.Reads.{ReadsWords}
 use Rattle.gopass_cli.specs.declared.status.Status.TheVariants.{BadWords}
@@ -24,8 +24,8 @@ returns-in-Ok-new-clause-answers g c told tells ring have =
     let old = faults_of g.D.Disk.meaning c.args.disk g.C.Cipher.meaning c.args.tools.now.items in
     let new = faults_of g.D.Disk.meaning c.answer_command.result.disk g.C.Cipher.meaning c.answer_command.new.tools.items in
     let said = said_in c.answer_command.result.reply in
-    subst (λ (asked : Result Asked ℕ). SaidInRun (SaysOfWords asked opens root files input ring) old new said) (sym c.in-Ok.ensures)
-    (runs_weaker (SaysOfCommand opens root files input ring c.in-Ok.command) (SaysOfWords (Ok (asked_by c.in-Ok.command)) opens root files input ring) old new said
+    subst (λ (invocation : Result Invocation ℕ). SaidInRun (SaysOfWords invocation opens root files input ring) old new said) (sym c.in-Ok.ensures)
+    (runs_weaker (SaysOfCommand opens root files input ring c.in-Ok.command) (SaysOfWords (Ok (invocation_of c.in-Ok.command)) opens root files input ring) old new said
     (λ events h. (c.in-Ok.command, refl, h)) (c.answer_command.ensures.answers told tells ring have))
 
 pub returns-in-Err-Bad-clause-answers : goal.returns-in-Err-Bad-clause-answers
@@ -36,7 +36,7 @@ returns-in-Err-Bad-clause-answers g c told tells ring have =
     let files = (g.D.Disk.meaning.view c.args.disk).files in
     let now = faults_of g.D.Disk.meaning c.args.disk g.C.Cipher.meaning c.args.tools.now.items in
     let bad = subst (λ (fault : WordsFault). ReadsWords (Err fault) (words_in (map string_bytes c.args.words.now))) c.in-Err-Bad.field-0-is c.in-Err-Bad.ensures in
-    subst (λ (asked : Result Asked ℕ). SaidInRun (SaysOfWords asked opens root files input ring) now now (said_in c.refuse_words.result)) (sym bad)
+    subst (λ (invocation : Result Invocation ℕ). SaidInRun (SaysOfWords invocation opens root files input ring) now now (said_in c.refuse_words.result)) (sym bad)
     (runs_meant (SaysOfWords (Err c.in-Err-Bad.at) opens root files input ring) now now (omega arith) (refused BadWords (bad_words c.in-Err-Bad.at)) (said_in c.refuse_words.result) (refl, record { left = refl; taken = refl; ends = refl; faults = refl }) c.refuse_words.ensures)
 
 pub returns-in-Err-NoMemory-clause-answers : goal.returns-in-Err-NoMemory-clause-answers

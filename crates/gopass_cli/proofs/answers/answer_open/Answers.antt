@@ -1,6 +1,6 @@
 use Rattle.std.proofs.Common.{◌≡◌, inl, inr, ap, sym, ◌∙◌, subst, arith}
 use Rattle.store_core.specs.Events.{Events}
-use Rattle.gopass_cli.specs.Asked.{subject_of}
+use Rattle.gopass_cli.specs.Actions.{subject_of}
 use Rattle.gopass_cli.specs.Said.{Said, said_of}
 use Rattle.request_body.specs.Bodies.{input_of}
 use Rattle.gopass_cli.specs.Plan.{plan_of}

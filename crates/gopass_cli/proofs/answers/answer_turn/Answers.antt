@@ -7,8 +7,10 @@ use Rattle.gopass_base.specs.Text.{Text}
 use Rattle.pending_journal.specs.Redo.{IsAtRest}
 use Rattle.store_core.specs.Events.{Events}
 use Rattle.store_core.specs.Moment.{moment_of, all_tools}
-use Rattle.gopass_cli.specs.Asked.{subject_of}
+use Rattle.gopass_cli.specs.Actions.{subject_of}
 use Rattle.gopass_cli.specs.Causes.{TellsCauses}
+use Rattle.gopass_cli.specs.declared.status.Status.TheVariants.{InputFailed}
+use Rattle.gopass_cli.specs.Statuses.{code}
 use Rattle.gopass_cli.specs.Said.{Said, said_of}
 use Rattle.gopass_cli.specs.Plan.{plan_of}
 use Rattle.request_body.specs.Given.{bytes_of}
@@ -22,7 +24,7 @@ use Rattle.gopass_cli.proofs.answers.answer_turn.Goals as goal
 pub returns-clause-answers : goal.returns-clause-answers
 returns-clause-answers g c state stands told tells ring have =
     let store = c.args.store in
-    let turned = c.turn-reply.ensures.answers in
+    let turned = c.turn-reply.ensures.turned in
     let says = λ (events : Events) (said : Said). said ≡ said_of (subject_of c.args.command) (plan_of ring c.args.command (bytes_of c.args.body) state events).outcome in
     let old = moment_of store (all_tools g.C.Cipher.meaning c.args.tools.now.items) in
     let new = moment_of c.turn-reply.new.store (all_tools g.C.Cipher.meaning c.turn-reply.new.tools.items) in
@@ -33,7 +35,7 @@ returns-clause-answers g c state stands told tells ring have =
 pub returns-clause-went : goal.returns-clause-went
 returns-clause-went g c state stands told tells ring have before from input given =
     let store = c.args.store in
-    let turned = c.turn-reply.ensures.answers in
+    let turned = c.turn-reply.ensures.turned in
     let opens = g.C.Cipher.meaning.opens in
     let status = λ (o : Outcome) (e : turned.outcome ≡ o). ap (λ (s : Said). s.status) (turned.says ∙ ap (said_of (subject_of c.args.command)) e) in
     let old = moment_of store (all_tools g.C.Cipher.meaning c.args.tools.now.items) in
@@ -46,7 +48,7 @@ returns-clause-went g c state stands told tells ring have before from input give
 pub returns-clause-causes : goal.returns-clause-causes
 returns-clause-causes g c =
     let store = c.args.store in
-    let turned = c.turn-reply.ensures.answers in
+    let turned = c.turn-reply.ensures.turned in
     let old = faults_of g.D.Disk.meaning store.vault.disk g.C.Cipher.meaning c.args.tools.now.items in
     let new = faults_of g.D.Disk.meaning c.turn-reply.new.store.vault.disk g.C.Cipher.meaning c.turn-reply.new.tools.items in
     let disk = c.into_disk.ensures ∙ ap (λ v. v.disk) c.into_vault.ensures in
@@ -55,5 +57,5 @@ returns-clause-causes g c =
 
 pub returns-clause-no_input : goal.returns-clause-no_input
 returns-clause-no_input g c =
-    let turned = c.turn-reply.ensures.answers in
-    subst (λ (s : Said). s.status ≢ 15) (sym turned.says) (tells_no_input (subject_of c.args.command) turned.outcome)
+    let turned = c.turn-reply.ensures.turned in
+    subst (λ (s : Said). s.status ≢ code InputFailed) (sym turned.says) (tells_no_input (subject_of c.args.command) turned.outcome)

@@ -25,7 +25,7 @@ returns-in-Ready-clause-answers g c first redone told tells ring have =
     let found = c.in-Ready.ensures.opens told in
     let state = found_state opens vault.root files store.found found.table found in
     let stands = found_stands opens vault.root files store.found found.table found in
-    let here = subst (λ (r : Text). StandsFor opens r (g.D.Disk.meaning.view store.vault.disk).files state) (sym c.in-Ready.ensures.kept.root) (subst (λ (f : Files). StandsFor opens vault.root f state) (sym (c.in-Ready.ensures.rests told).files) stands) in
+    let here = subst (λ (r : Text). StandsFor opens r (g.D.Disk.meaning.view store.vault.disk).files state) (sym c.in-Ready.ensures.only_reads.root) (subst (λ (f : Files). StandsFor opens vault.root f state) (sym (c.in-Ready.ensures.only_reads.rests told).files) stands) in
     let old = faults_of g.D.Disk.meaning vault.disk g.C.Cipher.meaning c.args.tools.now.items in
     let mid = faults_of g.D.Disk.meaning store.vault.disk g.C.Cipher.meaning c.args.tools.now.items in
     let new = faults_of g.D.Disk.meaning c.answer_open.result.disk g.C.Cipher.meaning c.answer_open.new.tools.items in
@@ -60,9 +60,9 @@ returns-in-Ready-clause-safe g c state stands told tells ring have before from =
     let f1 = faults_of g.D.Disk.meaning store.vault.disk g.C.Cipher.meaning c.args.tools.now.items in
     let f2 = faults_of g.D.Disk.meaning c.answer_open.result.disk g.C.Cipher.meaning c.answer_open.new.tools.items in
     let stand = rest_stands opens root before v0 state (vault.at_rest c.requires.free told) stands from in
-    let rests = c.in-Ready.ensures.rests told in
-    let here = subst (λ (r : Text). StandsFor opens r v1.files state) (sym c.in-Ready.ensures.kept.root) (subst (λ (f : Files). StandsFor opens root f state) (sym rests.files) stands) in
-    let safe = subst (λ (r : Text). IsSafe opens r ring c.args.command input before v1 v2 f1 f2 c.answer_open.result.reply.status) c.in-Ready.ensures.kept.root (c.answer_open.ensures.safe state here told tells ring have before from) in
+    let rests = c.in-Ready.ensures.only_reads.rests told in
+    let here = subst (λ (r : Text). StandsFor opens r v1.files state) (sym c.in-Ready.ensures.only_reads.root) (subst (λ (f : Files). StandsFor opens root f state) (sym rests.files) stands) in
+    let safe = subst (λ (r : Text). IsSafe opens r ring c.args.command input before v1 v2 f1 f2 c.answer_open.result.reply.status) c.in-Ready.ensures.only_reads.root (c.answer_open.ensures.safe state here told tells ring have before from) in
     safe_after opens root ring c.args.command input before v0 v1 v2 f0 f1 f2 c.answer_open.result.reply.status c.in-Ready.ensures.later (omega arith) (rested_recovers opens root v0 v1 rests (vault.at_rest c.requires.free told)) (rested opens root v0 v1 rests (vault.at_rest c.requires.free told))
     (rests_kept opens root v0 v1 rests) (rests_safe opens root before v0 v1 rests stand) safe
 
@@ -77,8 +77,8 @@ returns-in-Refused-clause-safe g c state stands told tells ring have before from
     subst (λ d. IsSafe opens vault.root ring c.args.command input before v0 (g.D.Disk.meaning.view d) f0 (faults_of g.D.Disk.meaning d g.C.Cipher.meaning c.args.tools.now.items) c.refuse_store.result.status) (sym c.into_disk.ensures)
     (inl (record {
       tells = tells_store c.in-Refused.fault (said_in c.refuse_store.result) (never_refused opens vault.root v0.files state stands c.in-Refused.fault (c.in-Refused.ensures.opens told)) c.refuse_store.ensures;
-      any_moment = rests_safe opens vault.root before v0 (g.D.Disk.meaning.view c.in-Refused.vault.disk) (c.in-Refused.ensures.rests told) stand;
-      kept = rests_kept opens vault.root v0 (g.D.Disk.meaning.view c.in-Refused.vault.disk) (c.in-Refused.ensures.rests told);
+      any_moment = rests_safe opens vault.root before v0 (g.D.Disk.meaning.view c.in-Refused.vault.disk) (c.in-Refused.ensures.only_reads.rests told) stand;
+      kept = rests_kept opens vault.root v0 (g.D.Disk.meaning.view c.in-Refused.vault.disk) (c.in-Refused.ensures.only_reads.rests told);
     }))
 
 pub returns-in-Ready-clause-kept : goal.returns-in-Ready-clause-kept
@@ -91,4 +91,4 @@ returns-in-Refused-clause-kept g c told =
     let vault = c.args.vault in
     let v0 = g.D.Disk.meaning.view vault.disk in
     subst (λ d. KeptOrOpens vault.root v0 (g.D.Disk.meaning.view d)) (sym c.into_disk.ensures)
-    (inl (rests_kept g.C.Cipher.meaning.opens vault.root v0 (g.D.Disk.meaning.view c.in-Refused.vault.disk) (c.in-Refused.ensures.rests told)))
+    (inl (rests_kept g.C.Cipher.meaning.opens vault.root v0 (g.D.Disk.meaning.view c.in-Refused.vault.disk) (c.in-Refused.ensures.only_reads.rests told)))

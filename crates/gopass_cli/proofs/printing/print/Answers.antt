@@ -1,7 +1,7 @@
 use Rattle.std.proofs.Common.{subst, sym, inl, inr, refl}
 use Rattle.gopass_base.specs.Text.{Text}
 use Rattle.io_ports.specs.Sink.{Took, TookPart}
-use Rattle.gopass_cli.proofs.Outcomes.{on_err, on_ok}
+use Rattle.gopass_cli.proofs.ResultLemmas.{on_err, on_ok}
 use Rattle.gopass_cli.proofs.printing.print.Goals as goal
 
 pub returns-then-is_err-clause-printed : goal.returns-then-is_err-clause-printed
@@ -10,7 +10,7 @@ returns-then-is_err-clause-printed g c =
     let whole = c.deref.ensures.value in
     let part = on_err _ failed c.put_all.ensures.part in
     inr (inl (record {
-      status_is = refl;
+      status_is = c.code.ensures;
       stops = record {
         part = subst (λ (bytes : Text). TookPart (g.O.Sink.meaning.held c.args.out.now) (g.O.Sink.meaning.held c.put_all.new.sink) bytes) whole part;
         rose = c.put_all.ensures.cause.failed (sym failed);
@@ -24,7 +24,7 @@ returns-then-is_err-2-clause-printed g c =
     let failed = c.if-is_err-2.ensures.value in
     let part = on_err _ failed c.put_all-2.ensures.part in
     inr (inr (record {
-      status_is = refl;
+      status_is = c.code-then-is_err-2.ensures;
       took_out = subst (λ (bytes : Text). Took (g.O.Sink.meaning.held c.args.out.now) (g.O.Sink.meaning.held c.put_all.new.sink) bytes) c.deref.ensures.value took;
       stops = record {
         part = subst (λ (bytes : Text). TookPart (g.E.Sink.meaning.held c.args.err.now) (g.E.Sink.meaning.held c.put_all-2.new.sink) bytes) c.err_bytes.ensures part;

@@ -1,6 +1,8 @@
 use Rattle.std.proofs.Common.{◌≢◌, ◌∙◌, inl, inr, ⊎_elim, map}
 use Rattle.std.specs.Prelude.{string_bytes}
 use Rattle.request_body.specs.Bodies.{input_of}
+use Rattle.gopass_cli.specs.declared.status.Status.TheVariants.{NoMemory}
+use Rattle.gopass_cli.specs.Statuses.{code}
 use Rattle.gopass_cli.specs.Printed.{printed, stream_of}
 use Rattle.gopass_cli.specs.Replies.{said_in}
 use Rattle.gopass_cli.specs.Run.{RunSays, faults_of}
@@ -19,7 +21,7 @@ returns-clause-complete g c told tells ring have calm memory =
     let new = faults_of g.D.Disk.meaning c.answer-reply.result.disk g.C.Cipher.meaning c.answer-reply.new.tools.items in
     let said = said_in c.answer-reply.result.reply in
     let all = prints_all (printed said) c.print-status.result (stream_of g.O.Sink.meaning c.args.out.now) (stream_of g.O.Sink.meaning c.print-status.new.out) (stream_of g.E.Sink.meaning c.args.err.now) (stream_of g.E.Sink.meaning c.print-status.new.err) calm.out calm.err c.print-status.ensures.printed in
-    let had : said.status ≢ 14 = λ e. memory (all.status_is ∙ e) in
+    let had : said.status ≢ code NoMemory = λ e. memory (all.status_is ∙ e) in
     let says = said_calmly (RunSays (map string_bytes c.args.words.now) g.C.Cipher.meaning.opens c.args.root.now (g.D.Disk.meaning.view c.args.disk).files (input_of g.S.Source.meaning c.args.input.now c.answer-reply.new.input) ring) old new said calm.disk calm.tools had (c.answer-reply.ensures.answers told tells ring have) in
     (said, says, all)
 

@@ -1,9 +1,10 @@
 use Rattle.std.proofs.Common.{[], set, sym, subst, arith}
 use Rattle.store_core.specs.Moment.{all_tools}
+use Rattle.store_core.specs.Steps.{just}
 use Rattle.store_core.specs.Does.{Does, Keeps}
 use Rattle.store_core.specs.Plans.{Outcome, outcome_by}
 use Rattle.store_core.specs.Insert.{plan_insert}
-use Rattle.gopass_cli.specs.Outcomes.{IsOutcomeAbout}
+use Rattle.gopass_cli.specs.Outcomes.{Concerns}
 use Rattle.gopass_cli.proofs.TurnLemmas.{about_by, lifts_does, lifts_keeps}
 use Rattle.gopass_cli.proofs.turns.insert.Goals as goal
 
@@ -12,7 +13,7 @@ returns-clause-planned g c =
     let store = c.args.store.now in
     let tools = c.args.tools.now.items in
     let outcome = outcome_by (λ done. []) c.insert.result in
-    subst (λ (o : Outcome). Does {G = g.D.Disk} (λ ring. plan_insert ring c.args.name.now c.args.body.now c.args.force) store c.insert.new.self (all_tools g.C.Cipher.meaning tools) (all_tools g.C.Cipher.meaning (set tools 0 c.insert.new.tool)) o) (sym c.done.ensures)
+    subst (λ (o : Outcome). Does {G = g.D.Disk} (λ ring. plan_insert ring c.args.name.now c.args.body.now c.args.force) store c.insert.new.self (all_tools g.C.Cipher.meaning tools) (all_tools g.C.Cipher.meaning (set tools 0 c.insert.new.tool)) (just o)) (sym c.of_nothing.ensures)
     (lifts_does g.C.Cipher.meaning store c.insert.new.self tools c.index_mut.result.now c.insert.new.tool (omega (arith, c.requires.some)) c.index_mut.ensures.value (λ ring. plan_insert ring c.args.name.now c.args.body.now c.args.force) outcome c.insert.ensures.planned)
 
 pub returns-clause-keeps : goal.returns-clause-keeps
@@ -20,8 +21,8 @@ returns-clause-keeps g c =
     let store = c.args.store.now in
     let tools = c.args.tools.now.items in
     let outcome = outcome_by (λ done. []) c.insert.result in
-    subst (λ (o : Outcome). Keeps {G = g.D.Disk} 1 store c.insert.new.self (all_tools g.C.Cipher.meaning tools) (all_tools g.C.Cipher.meaning (set tools 0 c.insert.new.tool)) o) (sym c.done.ensures)
+    subst (λ (o : Outcome). Keeps {G = g.D.Disk} 1 store c.insert.new.self (all_tools g.C.Cipher.meaning tools) (all_tools g.C.Cipher.meaning (set tools 0 c.insert.new.tool)) o) (sym c.of_nothing.ensures)
     (lifts_keeps g.C.Cipher.meaning store c.insert.new.self tools c.index_mut.result.now c.insert.new.tool (omega (arith, c.requires.some)) c.index_mut.ensures.value 1 outcome c.insert.ensures.keeps)
 
 pub returns-clause-about : goal.returns-clause-about
-returns-clause-about g c = subst (IsOutcomeAbout c.args.name.now) (sym c.done.ensures) (about_by c.args.name.now (λ done. []) c.insert.result c.insert.ensures.about)
+returns-clause-about g c = subst (Concerns c.args.name.now) (sym c.of_nothing.ensures) (about_by c.args.name.now (λ done. []) c.insert.result c.insert.ensures.about)

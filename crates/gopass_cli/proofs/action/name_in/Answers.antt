@@ -3,8 +3,8 @@ use Rattle.std.specs.Prelude.{Err}
 use Rattle.mount_table.specs.FaultOf.{name_fault}
 use Rattle.mount_table.proofs.FaultOfLemmas.{name_none, name_some}
 use Rattle.gopass_cli.specs.Outcomes.{meant}
-use Rattle.gopass_cli.proofs.AskedLemmas.{misread}
-use Rattle.gopass_cli.proofs.asked.name_in.Goals as goal
+use Rattle.gopass_cli.proofs.ActionLemmas.{misread}
+use Rattle.gopass_cli.proofs.action.name_in.Goals as goal
 
 pub returns-in-Ok-clause-good : goal.returns-in-Ok-clause-good
 returns-in-Ok-clause-good c = (c.in-Ok.ensures.name, name_none c.args.word.now (c.in-Ok.ensures.good refl))

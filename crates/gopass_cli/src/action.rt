@@ -1,13 +1,13 @@
-//! The words of a command as names, folders and texts.
+//! What a command does to a store: its words as names, folders and texts.
 
-ghost use Rattle.std.specs.Prelude.{◌≡◌, ◌⊎◌, IfErr, IfOk, Err, Ok, None, Some};
+ghost use Rattle.std.specs.Prelude.{◌≡◌, ◌⊎◌, IfErr, IfOk, Err, Ok, None};
 ghost use Rattle.mount_table.specs.declared.name.BadName.{BadName};
 ghost use Rattle.mount_table.specs.FaultOf.{folder_fault, name_fault};
 ghost use Rattle.mount_table.specs.Folders.{without_slash};
 ghost use Rattle.store_core.specs.Plans.{Refused, Misnamed};
 ghost use Rattle.store_core.specs.declared.refusal.Refusal.TheVariants as refusal;
-ghost use Rattle.gopass_cli.specs.Asked.{asked_by, folder_word, subject};
-ghost use Rattle.gopass_cli.specs.Outcomes.{ComesTo, IsInner, meant};
+ghost use Rattle.gopass_cli.specs.Actions.{action_of, folder_word, subject};
+ghost use Rattle.gopass_cli.specs.Outcomes.{ComesTo, IsInner, IsMisread, meant};
 
 use crate::outcome::{Outcome, no_memory};
 use command_words::Command;
@@ -15,9 +15,9 @@ use gopass_base::Utf8;
 use mount_table::{Folder, Name, NameFault};
 use std::alloc::Global;
 
-/// What is asked of a store.
+/// What a command does to a store.
 #[derive(Debug, Drop)]
-pub(crate) enum Asked {
+pub(crate) enum Action {
     Show(Name),
     /// A secret, and whether it is written over where it is there.
     Insert(Name, bool),
@@ -46,8 +46,7 @@ fn misnamed(alloc: Global, word: &str, fault: NameFault) -> Outcome
 /// The name that the word is.
 fn name_in(alloc: Global, word: &str) -> Result<Name, Outcome>
     ensures good { IfOk result (λ name. (name ≡ word.now) × (name_fault word.now ≡ None)) }
-    ensures bad { IfErr result (λ outcome. (meant outcome ≡ Refused refusal.NoMemory)
-        ⊎ ((bad : BadName) × (name_fault word.now ≡ Some bad) × (meant outcome ≡ Misnamed word.now bad.at))) }
+    ensures bad { IfErr result (λ outcome. IsMisread (name_fault word.now) word.now (meant outcome)) }
     ensures own { IfErr result (λ outcome. IsInner (meant outcome)) }
 {
     match Name::read(alloc, word) {
@@ -59,8 +58,7 @@ fn name_in(alloc: Global, word: &str) -> Result<Name, Outcome>
 /// The folder that the word names.
 fn folder_in(alloc: Global, word: &str) -> Result<Folder, Outcome>
     ensures good { IfOk result (λ folder. (folder ≡ without_slash word.now) × (folder_fault word.now ≡ None)) }
-    ensures bad { IfErr result (λ outcome. (meant outcome ≡ Refused refusal.NoMemory)
-        ⊎ ((bad : BadName) × (folder_fault word.now ≡ Some bad) × (meant outcome ≡ Misnamed word.now bad.at))) }
+    ensures bad { IfErr result (λ outcome. IsMisread (folder_fault word.now) word.now (meant outcome)) }
     ensures own { IfErr result (λ outcome. IsInner (meant outcome)) }
 {
     match Folder::read(alloc, word) {
@@ -80,43 +78,46 @@ fn folder_word(folder: &Option<String>) -> &str
 }
 
 /// The search for the text.
-fn find(alloc: Global, text: &str) -> Result<Asked, Outcome>
-    ensures good { IfOk result (λ asked. asked ≡ Asked.Find text.now) }
+fn find(alloc: Global, text: &str) -> Result<Action, Outcome>
+    ensures good { IfOk result (λ action. action ≡ Action.Find text.now) }
     ensures bad { IfErr result (λ outcome. meant outcome ≡ Refused refusal.NoMemory) }
     ensures own { IfErr result (λ outcome. IsInner (meant outcome)) }
 {
     match Utf8::of(alloc, text) {
-        Ok(text) => Ok(Asked::Find(text)),
+        Ok(text) => Ok(Action::Find(text)),
         Err(_) => Err(no_memory()),
     }
 }
 
-impl Asked {
-    /// What the command asks.
-    pub(crate) fn read(alloc: Global, command: &Command) -> Result<Asked, Outcome>
-        ensures good { IfOk result (λ asked. asked_by command.now ≡ Ok asked) }
-        ensures bad { IfErr result (λ outcome. (meant outcome ≡ Refused refusal.NoMemory) ⊎ (asked_by command.now ≡ Err (meant outcome))) }
+impl Action {
+    /// The action of the command.
+    pub(crate) fn read(alloc: Global, command: &Command) -> Result<Action, Outcome>
+        ensures good { IfOk result (λ action. action_of command.now ≡ Ok action) }
+        ensures bad { IfErr result (λ outcome. (meant outcome ≡ Refused refusal.NoMemory) ⊎ (action_of command.now ≡ Err (meant outcome))) }
         ensures own { IfErr result (λ outcome. IsInner (meant outcome)) }
     {
         match command {
-            Command::Show { name } => Ok(Asked::Show(name_in(alloc, name)?)),
-            Command::Insert { name, force, .. } => Ok(Asked::Insert(name_in(alloc, name)?, *force)),
+            Command::Show { name } => Ok(Action::Show(name_in(alloc, name)?)),
+            Command::Insert { name, force, .. } => Ok(Action::Insert(
+                name_in(alloc, name)?,
+                *force,
+            )),
             Command::Ls { folder, flat } => {
-                Ok(Asked::Ls(folder_in(alloc, folder_word(folder))?, *flat))
+                Ok(Action::Ls(folder_in(alloc, folder_word(folder))?, *flat))
             }
             Command::Find { text } => find(alloc, text),
-            Command::Mounts => Ok(Asked::Mounts),
-            Command::Recipients => Ok(Asked::Recipients),
+            Command::Mounts => Ok(Action::Mounts),
+            Command::Recipients => Ok(Action::Recipients),
         }
     }
 
-    /// The name or the folder that is asked for.
+    /// The name or the folder that it is about.
     pub(crate) fn subject(&self) -> &str
         ensures { result.now ≡ subject self.now }
     {
         match self {
-            Asked::Show(name) | Asked::Insert(name, _) => name.text(),
-            Asked::Ls(folder, _) => folder.text(),
+            Action::Show(name) | Action::Insert(name, _) => name.text(),
+            Action::Ls(folder, _) => folder.text(),
             _ => "",
         }
     }
