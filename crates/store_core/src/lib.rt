@@ -25,6 +25,10 @@ pub use store::Store;
 pub use store_state::{Limit, StoreFault};
 
 #[cfg(test)]
-mod apply_tests;
+mod edit_crash_tests;
+#[cfg(test)]
+mod edit_tests;
+#[cfg(test)]
+mod limit_tests;
 #[cfg(test)]
 mod tests;
