@@ -1,8 +1,7 @@
 -- A change that takes the files of entries one after the other refuses none of them.
-use Rattle.std.proofs.Common.{◌≡◌, inl, inr, ℕ, ◌+◌, ◌<◌, ◌≤◌, false, List, [], ◌∷◌, ◌++◌, length, map, Option, Some, None, Ok, Err, refl, ap, sym, ◌∙◌, subst, arith, length-append}
-use Rattle.std.specs.Prelude.{Contains, Vec}
+use Rattle.std.proofs.Common.{◌≡◌, inl, inr, ◌+◌, ◌<◌, ◌≤◌, false, List, [], ◌∷◌, ◌++◌, length, map, Option, Some, None, Ok, Err, refl, ap, sym, ◌∙◌, subst, arith, length-append}
+use Rattle.std.specs.Prelude.{Result, IfErr, Contains}
 use Rattle.std.proofs.lemmas.Bool.{false≢true}
-use Rattle.std.proofs.lemmas.List.{append_assoc, append-nil, length-map}
 use Rattle.std.proofs.lemmas.List.Elements.{Contains-append_cases}
 use Rattle.gopass_base.specs.Text.{Text}
 use Rattle.gopass_base.proofs.ListLemmas.{here, later, first_or}
@@ -17,17 +16,18 @@ use Rattle.pending_journal.specs.declared.change.ChangeAddFault.{ChangeAddFault}
 use Rattle.pending_journal.specs.declared.change.ChangeAddFault.TheVariants.{TwoForOne, Service, Long, NoMemory}
 use Rattle.store_core.specs.declared.change_of.File.{File}
 use Rattle.store_core.specs.Applying.{AreGood, IsChangeOf, IsFileOf, IsGood, Places, drop_by, drops_of, places_of, put_by, puts_of}
-use Rattle.store_core.specs.Edit.{AreOfOne, Differ, Entry, IsApartFrom, OfSecret, OfRule, OfTemplate, file_of_entry, place}
+use Rattle.store_core.specs.Edit.{AreOfOne, Differ, Entry, IsApartFrom, OfSecret, OfRule, OfTemplate, file_of_entry, paths_in, place}
 use Rattle.store_core.specs.Entries.{text_in}
 use Rattle.store_core.proofs.EditLemmas.{paths_of, paths_same, place_apart, plain_place}
 
 -- ---- what a change that may take a file does not answer
 
-pub only_memory : (root path : Text) (plan : JournalPlan) (fault : ChangeAddFault) → MayAdd root plan path {T = Unit {0}} (Ok tt) → MayAdd root plan path {T = Unit {0}} (Err fault) → fault ≡ NoMemory
-only_memory root path plan TwoForOne may refused = absurd (may.0 refused)
-only_memory root path plan Service may refused = absurd (false≢true (sym may.1 ∙ refused.1))
-only_memory root path plan Long may refused = absurd (omega (arith, may.2, refused.2))
-only_memory root path plan NoMemory may refused = refl
+pub only_memory : (root path : Text) (plan : JournalPlan) (r : Result (Unit {0}) ChangeAddFault) → MayAdd root plan path {T = Unit {0}} (Ok tt) → MayAdd root plan path r → IfErr r (λ fault. fault ≡ NoMemory)
+only_memory root path plan (Ok done) may is = tt
+only_memory root path plan (Err TwoForOne) may refused = absurd (may.0 refused)
+only_memory root path plan (Err Service) may refused = absurd (false≢true (sym may.1 ∙ refused.1))
+only_memory root path plan (Err Long) may refused = absurd (omega (arith, may.2, refused.2))
+only_memory root path plan (Err NoMemory) may refused = refl
 
 -- ---- the paths of a change
 
@@ -90,41 +90,39 @@ apart_back entry (one ∷ before) rest differ = (λ is. apart_at one entry befor
 
 -- ---- one file more
 
-pub may_add : (root : Text) (mounts : List Row) (before rest : List Entry) (entry : Entry) (change : Change) (path : Text) → IsTable root mounts → IsChangeOf root mounts before change → IsGood entry → path ≡ place mounts entry
-    → Differ (before ++ entry ∷ rest) → length (before ++ entry ∷ rest) ≤ 16400 → MayAdd change.root (plan_in change) path {T = Unit {0}} (Ok tt)
-may_add root mounts before rest entry change path table of good is differ few = (
-  λ has. (let has' = subst (λ (l : List Text). Contains l path) paths has in
-      place_apart root mounts entry before table good of.good (apart_back entry before rest differ)
-      (subst (λ (l : List Text). Contains l (place mounts entry)) (paths_same mounts before) (subst (Contains (paths_of (places_of mounts before))) is (elim (Contains-append_cases (firsts (puts_of (places_of mounts before))) (drops_of (places_of mounts before)) path has') [
-        | inl put ↦ put_among (places_of mounts before) path put
-        | inr drop ↦ drop_among (places_of mounts before) path drop
-      ])))),
-  (λ i. is_service (of.root_is i) (is i)) ∙ plain_place root mounts entry table good,
-  omega (
-    arith,
-    few,
-    length-append before (entry ∷ rest),
-    ap length paths,
-    length-append (firsts (puts_of (places_of mounts before))) (drops_of (places_of mounts before)),
-    count_both (places_of mounts before),
-    count_places mounts before,
-  ),
+-- a path that is none of these entries' and none of the vault's own
+pub may_add_at : (root : Text) (mounts : List Row) (before : List Entry) (change : Change) (path : Text) → IsChangeOf root mounts before change → ¬ Contains (paths_in mounts before) path → is_service root path ≡ false → length before < 16400
+    → MayAdd change.root (plan_in change) path {T = Unit {0}} (Ok tt)
+may_add_at root mounts before change path of out plain few = (
+  λ has. out (subst (λ (l : List Text). Contains l path) (paths_same mounts before) (elim (Contains-append_cases (firsts (puts_of (places_of mounts before))) (drops_of (places_of mounts before)) path (subst (λ (l : List Text). Contains l path) paths has)) [
+    | inl put ↦ put_among (places_of mounts before) path put
+    | inr drop ↦ drop_among (places_of mounts before) path drop
+  ])),
+  ap (λ (r : Text). is_service r path) of.root_is ∙ plain,
+  omega (arith, few, ap length paths, length-append (firsts (puts_of (places_of mounts before))) (drops_of (places_of mounts before)), count_both (places_of mounts before), count_places mounts before),
 )
   where
     paths : plan_paths (plan_in change) ≡ firsts (puts_of (places_of mounts before)) ++ drops_of (places_of mounts before)
     paths = λ i. (put_paths change.puts.items ∙ ap firsts of.puts) i ++ of.drops i
 
+pub may_add : (root : Text) (mounts : List Row) (before rest : List Entry) (entry : Entry) (change : Change) (path : Text) → IsTable root mounts → IsChangeOf root mounts before change → IsGood entry → path ≡ place mounts entry
+    → Differ (before ++ entry ∷ rest) → length (before ++ entry ∷ rest) ≤ 16400 → MayAdd change.root (plan_in change) path {T = Unit {0}} (Ok tt)
+may_add root mounts before rest entry change path table of good is differ few =
+    may_add_at root mounts before change path of
+    (λ has. place_apart root mounts entry before table good of.good (apart_back entry before rest differ) (subst (Contains (paths_in mounts before)) is has))
+    (ap (is_service root) is ∙ plain_place root mounts entry table good) (omega (arith, few, length-append before (entry ∷ rest)))
+
 places_more : (mounts : List Row) (before : List Entry) (entry : Entry) → places_of mounts (before ++ entry ∷ []) ≡ places_of mounts before ++ (place mounts entry, file_of_entry entry) ∷ []
 places_more mounts [] entry = refl
 places_more mounts (one ∷ before) entry = ap (λ l. (place mounts one, file_of_entry one) ∷ l) (places_more mounts before entry)
 
-puts_more : (places : Places) (path : Text) (file : Option Text) → puts_of (places ++ (path, file) ∷ []) ≡ puts_of places ++ put_by path file
+pub puts_more : (places : Places) (path : Text) (file : Option Text) → puts_of (places ++ (path, file) ∷ []) ≡ puts_of places ++ put_by path file
 puts_more [] path (Some bytes) = refl
 puts_more [] path None = refl
 puts_more ((at, Some bytes) ∷ places) path file = ap (λ l. (at, bytes) ∷ l) (puts_more places path file)
 puts_more ((at, None) ∷ places) path file = puts_more places path file
 
-drops_more : (places : Places) (path : Text) (file : Option Text) → drops_of (places ++ (path, file) ∷ []) ≡ drops_of places ++ drop_by path file
+pub drops_more : (places : Places) (path : Text) (file : Option Text) → drops_of (places ++ (path, file) ∷ []) ≡ drops_of places ++ drop_by path file
 drops_more [] path (Some bytes) = refl
 drops_more [] path None = refl
 drops_more ((at, Some bytes) ∷ places) path file = drops_more places path file

@@ -1,5 +1,5 @@
 -- A command that makes one edit does what is planned.
-use Rattle.std.proofs.Common.{◌≡◌, inl, inr, ⊎_elim, ℕ, ◌+◌, ◌≤◌, List, [], ◌∷◌, length, take, Some, None, refl, ap, sym, ◌∙◌, subst, arith}
+use Rattle.std.proofs.Common.{◌≡◌, inl, inr, ⊎_elim, ℕ, ◌+◌, ◌≤◌, List, [], ◌∷◌, Some, None, refl, ap, sym, ◌∙◌, subst, arith}
 use Rattle.std.specs.Prelude.{IsFalse, OnOk, Result, Ok, Err}
 use Rattle.gopass_base.specs.Text.{Text}
 use Rattle.gopass_base.specs.Faults.{HasCause, Rose}
@@ -24,6 +24,7 @@ use Rattle.store_core.specs.Applying.{made_by}
 use Rattle.store_core.specs.Does.{AreCaused, Keeps}
 use Rattle.store_core.specs.Edit.{Entry, edited, paths_in}
 use Rattle.store_core.specs.Refusals.{as_refused}
+use Rattle.store_core.specs.declared.refusal.Refusal.{Refusal}
 use Rattle.store_core.specs.Performs.{Goes, IsPassed, KeepsElsewhere, Performs, Walks}
 use Rattle.store_core.proofs.PerformLemmas.{Still, Ties, calm_tied, just_stopped, rests_elsewhere, stands_at_rest, stopped_tied}
 
@@ -137,3 +138,12 @@ module _ {D : Type 0} {G : Ghosts D} (most : ℕ) (old new : Store D G) (before 
     root = root;
     rings = rings;
   }
+
+-- what holds where the edit was made
+pub where_made : {P Q : Type 0} (r : Result (Unit {0}) ApplyFault) (answer : Result (Unit {0}) Refusal) → answer ≡ as_refused r → (P → Q) → OnOk r P → OnOk answer Q
+where_made {P} {Q} r answer is f has = subst (λ (x : Result (Unit {0}) Refusal). OnOk x Q) (sym is) (by r has)
+  where
+    by : (r : Result (Unit {0}) ApplyFault) → OnOk r P → OnOk (as_refused r) Q
+    by (Ok done) has = f has
+    by (Err ApplyDisk) has = tt
+    by (Err ApplyNoMemory) has = tt

@@ -1,5 +1,5 @@
 -- What an edit makes of the files, and of the state for which they stand.
-use Rattle.std.proofs.Common.{◌≡◌, ◌≢◌, inl, inr, ℕ, ◌+◌, Bool, false, ◌||◌, List, [], ◌∷◌, ◌++◌, length, Option, Some, None, if◌then◌else◌, bytes_eq, refl, ap, sym, ◌∙◌, subst, arith, length-append}
+use Rattle.std.proofs.Common.{◌≡◌, inl, inr, Bool, false, ◌||◌, List, [], ◌∷◌, ◌++◌, length, Option, Some, None, if◌then◌else◌, bytes_eq, refl, ap, sym, ◌∙◌, subst, arith, length-append}
 use Rattle.std.specs.Prelude.{◌≤◌, ◌*◌, All, Contains, codes, is_some, option_map}
 use Rattle.std.proofs.lemmas.List.Elements.{All-head, All-tail}
 use Rattle.gopass_base.specs.Text.{Text, is_among}
@@ -81,7 +81,7 @@ AreApart [] = Unit {0}
 AreApart (one ∷ places) = (¬ Contains (paths_of places) one.0) × AreApart places
 
 -- the files with each of these made
-pub with_places : Places → Files → Files
+unfoldable pub with_places : Places → Files → Files
 with_places [] files = files
 with_places (one ∷ places) files = with_places places (put files one.0 one.1)
 

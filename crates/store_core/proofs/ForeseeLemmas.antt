@@ -1,6 +1,6 @@
 -- What is found once entries are made is what the edited state has.
 use Rattle.std.proofs.Common.{◌≡◌, inl, inr, ℕ, ◌+◌, ◌-◌, ◌<◌, ◌≤◌, Bool, true, false, List, [], ◌∷◌, ◌++◌, length, slice_index_or, set, Option, Some, None, refl, ap, sym, ◌∙◌, subst, arith, length-append}
-use Rattle.std.specs.Prelude.{is_some, option_map, Vec, Result, Ok, Err}
+use Rattle.std.specs.Prelude.{is_some, option_map, Vec, Result, Ok, Err, OnOk}
 use Rattle.std.specs.FinMap.{nat_cmp-IsAntisymmetric, slice_cmp-IsAntisymmetric}
 use Rattle.std.proofs.lemmas.Cmp.{nat_list_cmp_total}
 use Rattle.disk_model.proofs.FileLemmas.{cases_path}
@@ -22,19 +22,17 @@ use Rattle.recipient_files.specs.Ids.{Ids}
 use Rattle.path_rules.specs.RuleMap.{RuleMap, rule_at}
 use Rattle.path_rules.specs.Changes.{UnsetsRule}
 use Rattle.path_rules.specs.declared.rules.Absent.{Absent}
-use Rattle.cipher_port.specs.Tool.{Opens}
 use Rattle.store_state.specs.Agrees.{Agrees}
 use Rattle.store_state.specs.Found.{IsSameSeen}
 use Rattle.store_state.specs.Places.{folder_mount}
 use Rattle.store_state.specs.State.{State, cell_of}
 use Rattle.store_state.specs.declared.opening.Found.{Found}
-use Rattle.store_state.specs.declared.seen.Seen.{Seen}
 use Rattle.store_state.proofs.FolderMountLemmas.{folder_computed}
 use Rattle.store_state.proofs.KindLemmas.{one_folder_row}
-use Rattle.store_core.specs.Edit.{Entry, OfSecret, OfRule, OfTemplate, edited, has_rule, has_secret, has_template, one_more, resized, with_rule, with_row, with_secret, with_template}
+use Rattle.store_core.specs.Edit.{Entry, OfSecret, OfRule, OfTemplate, edited, resized, with_row}
 use Rattle.store_core.specs.Entries.{text_in}
 use Rattle.store_core.specs.Applying.{AreFew, IsMadeBy, IsSetAmong}
-use Rattle.store_core.proofs.EditLemmas.{edited_then, same_mounts}
+use Rattle.store_core.proofs.EditLemmas.{edited_then}
 use Rattle.store_core.proofs.KeysLemmas.{set_keys, set_rises}
 
 -- ---- the numbers of files
@@ -199,6 +197,11 @@ made_then xs ys a b c first second = record {
 -- one entry more of a list
 pub made_more : (before now : List Entry) (entry : Entry) (a b c : Found) → now ≡ before ++ entry ∷ [] → IsMadeBy before a b → IsMadeBy (entry ∷ []) b c → IsMadeBy now a c
 made_more before now entry a b c is first second = subst (λ (es : List Entry). IsMadeBy es a c) (sym is) (made_then before (entry ∷ []) a b c first second)
+
+-- what holds of an answer that is none, or follows from it
+pub where_ok : {T E P Q : Type 0} (r : Result T E) → (P → Q) → OnOk r P → OnOk r Q
+where_ok (Ok done) f has = f has
+where_ok (Err fault) f has = tt
 
 pub some_text : {A : Type 0} (bytes : Option (Vec ℕ A)) → is_some (text_in bytes) ≡ is_some bytes
 some_text None = refl

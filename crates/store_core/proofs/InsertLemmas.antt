@@ -16,7 +16,7 @@ use Rattle.store_core.specs.declared.refusal.Refusal.TheVariants.{Exists, NoRule
 use Rattle.store_state.specs.State.{State, StandsFor}
 use Rattle.store_core.specs.Plans.{Refused, Plan, answers, answers_by_tool}
 use Rattle.store_core.specs.Steps.{just}
-use Rattle.store_core.specs.Events.{Events, calm, refusing, TheDisk, Memory}
+use Rattle.store_core.specs.Events.{Events, calm, refusing, Memory}
 use Rattle.store_core.specs.Moment.{Moment}
 use Rattle.store_core.specs.Performs.{Performs}
 use Rattle.store_core.specs.Insert.{passed_by, insert_sealed, insert_within, insert_ruled, plan_insert}

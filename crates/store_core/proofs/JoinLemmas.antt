@@ -1,5 +1,5 @@
 -- One plan performed after another.
-use Rattle.std.proofs.Common.{◌≡◌, ⊎_elim, ◌+◌, ◌≤◌, List, [], ◌++◌, length, Option, Some, None, refl, ap, sym, ◌∙◌, subst, arith, length-append}
+use Rattle.std.proofs.Common.{◌≡◌, ⊎_elim, ◌+◌, ◌≤◌, List, ◌++◌, length, Option, Some, None, refl, ap, sym, ◌∙◌, subst, arith, length-append}
 use Rattle.std.specs.Prelude.{IsFalse, Contains}
 use Rattle.std.specs.Option.{option_or, option_to_list}
 use Rattle.std.proofs.lemmas.List.Elements.{Contains-append_cases, Contains-append_left, Contains-append_right}
@@ -8,11 +8,11 @@ use Rattle.gopass_base.specs.Faults.{Rose}
 use Rattle.disk_model.specs.Files.{Files}
 use Rattle.disk_model.proofs.RunLemmas.{leaves_then, leaves_weaken}
 use Rattle.store_core.specs.Elsewhere.{IsSameElsewhere}
-use Rattle.store_core.specs.Events.{Cause, Events, Memory, Stop, TheDisk, both, failed_names}
+use Rattle.store_core.specs.Events.{Events, Stop, TheDisk, both, failed_names}
 use Rattle.store_core.specs.Moment.{Faults, Moment}
 use Rattle.store_core.specs.Plans.{Failed, Plan, Step, Told}
 use Rattle.store_core.specs.Steps.{Answer, answer_up_to, cut_off, told_of}
-use Rattle.store_core.specs.Performs.{IsTied, KeepsElsewhere, Performs, Walks}
+use Rattle.store_core.specs.Performs.{KeepsElsewhere, Performs, Walks}
 use Rattle.store_core.proofs.PerformLemmas.{no_stop, same_cause}
 use Rattle.store_core.proofs.WalkLemmas.{cut_then, last_of, later, told_append, walks_then}
 

@@ -23,3 +23,4 @@ pub mod InsertEdit
 pub mod CountLemmas
 pub mod RuleStep
 pub mod DifferLemmas
+pub mod WithTableLemmas

@@ -1,6 +1,6 @@
 -- The limits of an edited state, by what is found.
-use Rattle.std.proofs.Common.{◌≡◌, ℕ, zero, suc, ◌+◌, ◌<◌, ◌≤◌, Bool, true, false, ◌||◌, List, [], ◌∷◌, length, None, Some, inl, inr, refl, ap, sym, ◌∙◌, subst, arith}
-use Rattle.std.specs.Prelude.{Option, Result, Ok, Err, nat_lt, slice_index_or, if◌then◌else◌}
+use Rattle.std.proofs.Common.{◌≡◌, ℕ, zero, suc, ◌<◌, ◌≤◌, Bool, true, false, ◌||◌, List, [], ◌∷◌, length, None, Some, inl, inr, refl, ap, sym, ◌∙◌, subst, arith}
+use Rattle.std.specs.Prelude.{Result, Ok, Err, nat_lt, slice_index_or, if◌then◌else◌}
 use Rattle.std.specs.FinMap as map
 use Rattle.std.specs.List.{list_any}
 use Rattle.std.proofs.lemmas.Bool.{cases_lt}
@@ -10,7 +10,6 @@ use Rattle.gopass_base.specs.Text.{Text}
 use Rattle.mount_table.specs.Mounts.{IsTable, root_of}
 use Rattle.disk_model.specs.Files.{Files as DiskFiles}
 use Rattle.cipher_port.specs.Tool.{Opens}
-use Rattle.store_state.specs.declared.fault.Limit.{Limit}
 use Rattle.store_state.specs.declared.fault.Limit.TheVariants.{Rules, Secrets, Files}
 use Rattle.store_state.specs.declared.opening.Found.{Found}
 use Rattle.store_state.specs.Opening.{IsFound}
@@ -36,14 +35,14 @@ none_over (count ∷ counts) none k lt = by (nat_lt 40000 count) refl (none_over
     by false is more (suc k) lt = more (sym (ap (λ b. b || list_any (λ count. nat_lt 40000 count) counts) is) ∙ none) k (omega (arith, lt))
 
 pub none_within : (state : State) → limit_in state ≡ None → IsWithin state
-none_within state none = by (nat_lt 512 (map.len state.rules)) (nat_lt 8192 (map.len state.rows)) (list_any (λ count. nat_lt 40000 count) state.sizes) refl refl refl none
+none_within state none = by (list_any (λ count. nat_lt 40000 count) state.sizes) (nat_lt 512 (map.len state.rules)) (nat_lt 8192 (map.len state.rows)) refl refl refl none
   where
-    by : (rules rows files : Bool) → nat_lt 512 (map.len state.rules) ≡ rules → nat_lt 8192 (map.len state.rows) ≡ rows → list_any (λ count. nat_lt 40000 count) state.sizes ≡ files
-        → (if rules then Some Rules else if rows then Some Secrets else if files then Some Files else None) ≡ None → IsWithin state
-    by true rows files r s f e = absurd (cc)
-    by false true files r s f e = absurd (cc)
-    by false false true r s f e = absurd (cc)
-    by false false false r s f e = record {
+    by : (files rules rows : Bool) → list_any (λ count. nat_lt 40000 count) state.sizes ≡ files → nat_lt 512 (map.len state.rules) ≡ rules → nat_lt 8192 (map.len state.rows) ≡ rows
+        → (if files then Some Files else if rules then Some Rules else if rows then Some Secrets else None) ≡ None → IsWithin state
+    by true rules rows f r s e = absurd (cc)
+    by false true rows f r s e = absurd (cc)
+    by false false true f r s e = absurd (cc)
+    by false false false f r s e = record {
       few_rules = not_over 512 (map.len state.rules) r;
       few_secrets = not_over 8192 (map.len state.rows) s;
       few_files = λ k lt. elim (cases_lt k (length state.sizes)) [

@@ -1,19 +1,18 @@
 -- Commands that change nothing, and want of memory after any command.
-use Rattle.std.proofs.Common.{◌≡◌, inl, inr, ⊎_elim, ℕ, ◌+◌, ◌≤◌, true, List, [], length, take, Option, None, Some, refl, sym, ◌∙◌, ap, subst, arith}
-use Rattle.std.specs.Prelude.{Contains, IsFalse}
+use Rattle.std.proofs.Common.{◌≡◌, inl, inr, ⊎_elim, ℕ, ◌+◌, ◌≤◌, true, List, [], length, Option, None, Some, refl, sym, ◌∙◌, ap, subst, arith}
+use Rattle.std.specs.Prelude.{Contains}
 use Rattle.std.proofs.lemmas.List.{take_all}
 use Rattle.gopass_base.specs.Text.{Text}
 use Rattle.gopass_base.specs.Faults.{Rose}
 use Rattle.disk_model.specs.Disk.{Rests}
 use Rattle.disk_model.specs.Files.{Files}
-use Rattle.disk_model.specs.Runs.{Leaves}
 use Rattle.disk_model.proofs.RunLemmas.{rests_none}
 use Rattle.pending_journal.specs.Redo.{IsAtRest, RecoversTo}
 use Rattle.pending_journal.specs.Service.{is_service, journal_path}
 use Rattle.pending_journal.proofs.ServiceLemmas.{service_journal}
 use Rattle.pending_journal.proofs.RedoLemmas.{stands_none, without_none}
 use Rattle.store_core.specs.Plans.{Outcome, Plan, Step, Failed, answers_within}
-use Rattle.store_core.specs.Steps.{Answer, IsStopIn, answer_up_to, answered, cut_off, just, known, states_of, stop_outcome, told_after, told_of}
+use Rattle.store_core.specs.Steps.{Answer, answer_up_to, answered, cut_off, just, known, states_of, stop_outcome, told_after, told_of}
 use Rattle.store_core.specs.Events.{Events, calm, refusing, Cause, TheDisk, Memory, Stop}
 use Rattle.store_core.specs.Moment.{Faults, Moment}
 use Rattle.store_core.specs.Elsewhere.{IsSameElsewhere}

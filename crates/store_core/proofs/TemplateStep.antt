@@ -1,5 +1,5 @@
 -- The state for which files stand, where the file of one template was written or taken away.
-use Rattle.std.proofs.Common.{◌≡◌, ◌≢◌, inl, inr, ℕ, ◌<◌, true, false, List, [], ◌∷◌, length, Option, Some, None, refl, ap, sym, ◌∙◌, subst, arith}
+use Rattle.std.proofs.Common.{◌≡◌, ◌≢◌, inl, inr, ℕ, true, false, List, [], ◌∷◌, Option, Some, None, refl, ap, sym, ◌∙◌, subst, arith}
 use Rattle.std.specs.Prelude.{codes, is_some, option_map}
 use Rattle.std.specs.FinMap as map
 use Rattle.std.proofs.lemmas.Bool.{false≢true}
@@ -10,7 +10,6 @@ use Rattle.mount_table.specs.Folders.{IsFolder}
 use Rattle.mount_table.specs.Mounts.{row_at, IsTable, IsMountOfFolder}
 use Rattle.mount_table.specs.declared.mounts.Row.{Row}
 use Rattle.disk_model.specs.Files.{Files, put}
-use Rattle.disk_model.specs.Listing.{IsThere}
 use Rattle.disk_model.proofs.FileLemmas.{cases_path, put_apart, put_here}
 use Rattle.cipher_port.specs.Tool.{Opens}
 use Rattle.path_rules.specs.RuleMap.{rule_at}

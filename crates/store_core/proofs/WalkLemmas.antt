@@ -8,7 +8,7 @@ use Rattle.disk_model.proofs.RunLemmas.{leaves_then, leaves_weaken, rests_then}
 use Rattle.store_core.specs.Events.{Stop}
 use Rattle.store_core.specs.Moment.{Moment}
 use Rattle.store_core.specs.Plans.{Plan, Step}
-use Rattle.store_core.specs.Steps.{IsStopIn, answered, cut_off, known, states_of, states_up_to, told_of}
+use Rattle.store_core.specs.Steps.{IsStopIn, answered, cut_off, known, states_of, told_of}
 use Rattle.store_core.specs.Performs.{Goes, IsPassed, IsReached, LeftFor, Walks, state_at}
 
 pub states_append : {S : Type 0} (xs ys : List (Step S)) → states_of (xs ++ ys) ≡ states_of xs ++ states_of ys

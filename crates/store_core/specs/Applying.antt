@@ -99,6 +99,10 @@ IsSetAmong cmp old new item is true =
 IsSetAmong cmp old new item is false =
     (at : ℕ) × IsSearchInRange (Err at) (length old) × IsBinarySearchResult (λ y. cmp y item) old (Err at) × (new ≡ (if is then insert old at item else old))
 
+-- and its file is counted in this row of the numbers of files or not, where that number is not the greatest
+abbrev pub IsSetCounted : {A : Type 0} → (A → A → Ordering) → (old new : List A) → (counts now : List ℕ) → (row : ℕ) → A → (is : Bool) → Type 0
+IsSetCounted cmp old new counts now row item is = (was : Bool) × IsSetAmong cmp old new item is was × (slice_index_or counts row 0 < 18446744073709551615 → now ≡ resized was is row counts)
+
 -- none of the numbers is greater
 abbrev pub AreFew : List ℕ → ℕ → Type 0
 AreFew counts most = (k : ℕ) → slice_index_or counts k 0 ≤ most

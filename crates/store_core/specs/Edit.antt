@@ -109,12 +109,12 @@ pub record IsWithin (state : State) : Type 0 where
   pub few_secrets : map.len state.rows ≤ most_secrets
   pub few_files : (k : ℕ) → k < length state.mounts → slice_index_or state.sizes k 0 ≤ most_files
 
--- the first limit that so many rules, secrets and files below each mount pass
+-- the first limit that so many rules, secrets and files below each mount pass, in the order in which an opening refuses
 abbrev pub limit_among : (rules secrets : ℕ) → (counts : List ℕ) → Option Limit
 limit_among rules secrets counts =
-    if nat_lt most_rules rules then Some Rules
+    if list_any (λ count. nat_lt most_files count) counts then Some Files
+    else if nat_lt most_rules rules then Some Rules
     else if nat_lt most_secrets secrets then Some Secrets
-    else if list_any (λ count. nat_lt most_files count) counts then Some Files
     else None
 
 -- the first limit that a store in this state passes

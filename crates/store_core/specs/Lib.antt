@@ -18,3 +18,4 @@ pub mod Entries
 pub mod Applying
 pub mod Once
 pub mod OfState
+pub mod WithTable

@@ -1,12 +1,12 @@
 -- A command does what is planned, up to a stop.
-use Rattle.std.specs.Prelude.{◌≡◌, ◌⊎◌, ℕ, zero, suc, ◌+◌, ◌-◌, ◌^◌, ◌<◌, ◌≤◌, min, length, List, [], ◌∷◌, Contains, Option, None, Some, IsFalse}
+use Rattle.std.specs.Prelude.{◌≡◌, ◌⊎◌, ℕ, zero, suc, ◌+◌, ◌-◌, ◌^◌, ◌<◌, ◌≤◌, min, length, List, [], ◌∷◌, Contains, Option, Some, IsFalse}
 use Rattle.gopass_base.specs.Text.{Text}
 use Rattle.gopass_base.specs.Faults.{Rose}
 use Rattle.disk_model.specs.Files.{Files}
 use Rattle.disk_model.specs.Disk.{Rests}
 use Rattle.disk_model.specs.Runs.{Leaves}
 use Rattle.pending_journal.specs.Redo.{RecoversTo}
-use Rattle.store_core.specs.Plans.{Plan, Step, Failed}
+use Rattle.store_core.specs.Plans.{Plan, Failed}
 use Rattle.store_core.specs.Steps.{Answer, IsStopIn, answer_up_to, answered, cut_off, states_up_to, told_of}
 use Rattle.store_core.specs.Events.{Events, failed_names, TheDisk, Stop}
 use Rattle.store_core.specs.Moment.{Faults, Moment}

@@ -1,16 +1,19 @@
 //! The change of the files that an edit asks for.
 
-ghost use Rattle.std.specs.Prelude.{◌≡◌, ◌++◌, ◌∷◌, ◌≤◌, [], length, option_map, IfOk, OnOk, Ok};
+ghost use Rattle.std.specs.Prelude.{◌≡◌, ◌++◌, ◌∷◌, ◌<◌, ◌≤◌, [], length, option_map, IfOk, IfErr, OnOk, Ok, Some};
 ghost use Rattle.mount_table.specs.Mounts.{IsTable, root_of};
 ghost use Rattle.recipient_files.specs.RuleText.{rule_text};
 ghost use Rattle.pending_journal.specs.Change.{MayAdd, plan_in, puts_in};
 ghost use Rattle.pending_journal.specs.Journal.{most_steps};
 ghost use Rattle.store_core.specs.Edit.{Differ, OfSecret, OfRule, OfTemplate};
 ghost use Rattle.store_core.specs.Entries.{entries_in, text_in};
+ghost use Rattle.mount_table.specs.MountsText.{table_text};
+ghost use Rattle.store_state.specs.State.{mounts_path};
+ghost use Rattle.store_core.specs.WithTable.{HasRoom, IsChangeWithTable};
 ghost use Rattle.store_core.specs.Applying.{AreIds, IsChangeOf, IsFileOf, IsGood, drop_by, put_by};
 
 use crate::edit::Edit;
-use gopass_base::{FilePath, NoMemory};
+use gopass_base::{FilePath, NoMemory, ServiceFile};
 use mount_table::{DirPath, Folder, Mounts, Name};
 use pending_journal::{Change, ChangeAddFault};
 use recipient_files::Recipients;
@@ -92,14 +95,12 @@ fn template_file(
     Ok(File { path, bytes })
 }
 
-/// The file has these bytes afterwards. Only memory can be wanting.
-fn put_file(change: &mut Change, path: FilePath, bytes: Vec<u8>) -> Result<(), NoMemory>
-    requires { MayAdd change.old.root (plan_in change.old) path {T = Unit {0}} (Ok tt) }
-    ensures puts { OnOk result (puts_in change.new ≡ puts_in change.old ++ (path, bytes.items) ∷ []) }
-    ensures drops { change.new.drops.items ≡ change.old.drops.items }
-    ensures root { change.new.root ≡ change.old.root }
+/// What the adding of a file answers, which is not refused: only memory can be wanting.
+fn only_memory(added: Result<(), ChangeAddFault>) -> Result<(), NoMemory>
+    requires { IfErr added (λ fault. fault ≡ ChangeAddFault.NoMemory) }
+    ensures { OnOk result (added ≡ Ok tt) }
 {
-    match change.put(path, bytes) {
+    match added {
         Ok(()) => Ok(()),
         Err(ChangeAddFault::NoMemory) => Err(NoMemory),
         Err(ChangeAddFault::TwoForOne) => unreachable!(),
@@ -108,20 +109,24 @@ fn put_file(change: &mut Change, path: FilePath, bytes: Vec<u8>) -> Result<(), N
     }
 }
 
-/// The file is not there afterwards. Only memory can be wanting.
+/// The file has these bytes afterwards.
+fn put_file(change: &mut Change, path: FilePath, bytes: Vec<u8>) -> Result<(), NoMemory>
+    requires { MayAdd change.old.root (plan_in change.old) path {T = Unit {0}} (Ok tt) }
+    ensures puts { OnOk result (puts_in change.new ≡ puts_in change.old ++ (path, bytes.items) ∷ []) }
+    ensures drops { change.new.drops.items ≡ change.old.drops.items }
+    ensures root { change.new.root ≡ change.old.root }
+{
+    only_memory(change.put(path, bytes))
+}
+
+/// The file is not there afterwards.
 fn erase_file(change: &mut Change, path: FilePath) -> Result<(), NoMemory>
     requires { MayAdd change.old.root (plan_in change.old) path {T = Unit {0}} (Ok tt) }
     ensures puts { puts_in change.new ≡ puts_in change.old }
     ensures drops { OnOk result (change.new.drops.items ≡ change.old.drops.items ++ path ∷ []) }
     ensures root { change.new.root ≡ change.old.root }
 {
-    match change.erase(path) {
-        Ok(()) => Ok(()),
-        Err(ChangeAddFault::NoMemory) => Err(NoMemory),
-        Err(ChangeAddFault::TwoForOne) => unreachable!(),
-        Err(ChangeAddFault::Service) => unreachable!(),
-        Err(ChangeAddFault::Long) => unreachable!(),
-    }
+    only_memory(change.erase(path))
 }
 
 /// The file is as it is to be.
@@ -139,7 +144,7 @@ fn add_file(change: &mut Change, file: File) -> Result<(), NoMemory>
 }
 
 /// The change that puts and drops the files of the edit, below the mounts of this root directory.
-pub(crate) fn change_of(
+fn change_of(
     alloc: Global,
     root: &DirPath,
     mounts: &Mounts,
@@ -164,4 +169,60 @@ pub(crate) fn change_of(
         add_file(&mut change, template_file(alloc, mounts, owner, bytes)?)?;
     }
     Ok(change)
+}
+
+/// The mounts file has the text of this table afterwards.
+fn put_table(
+    alloc: Global,
+    change: &mut Change,
+    root: &DirPath,
+    table: &Mounts,
+) -> Result<(), NoMemory>
+    requires { MayAdd change.old.root (plan_in change.old) (mounts_path root.now) {T = Unit {0}} (Ok tt) }
+    ensures puts { OnOk result (puts_in change.new ≡ puts_in change.old ++ (mounts_path root.now, table_text table.now) ∷ []) }
+    ensures drops { change.new.drops.items ≡ change.old.drops.items }
+    ensures root { change.new.root ≡ change.old.root }
+{
+    let path = root.service_file(alloc, ServiceFile::Mounts)?;
+    let text = table.write()?;
+    put_file(change, path, text)
+}
+
+/// The change of an edit, and of the mounts file for this table.
+fn change_and_table(
+    alloc: Global,
+    root: &DirPath,
+    mounts: &Mounts,
+    edit: &Edit,
+    table: &Mounts,
+) -> Result<Change, NoMemory>
+    requires root { root_of mounts.now ≡ root.now }
+    requires differ { Differ (entries_in edit.now) }
+    requires room { length (entries_in edit.now) < most_steps }
+    ensures change { IfOk result (IsChangeWithTable root.now mounts.now (entries_in edit.now) (Some table.now)) }
+    ensures table { IsTable root.now mounts.now }
+{
+    let mut change = change_of(alloc, root, mounts, edit)?;
+    put_table(alloc, &mut change, root, table)?;
+    Ok(change)
+}
+
+/// The change of an edit, and of the mounts file where there is another table.
+pub(crate) fn change_with_table(
+    alloc: Global,
+    root: &DirPath,
+    mounts: &Mounts,
+    edit: &Edit,
+    table: &Option<Mounts>,
+) -> Result<Change, NoMemory>
+    requires root { root_of mounts.now ≡ root.now }
+    requires differ { Differ (entries_in edit.now) }
+    requires room { HasRoom (length (entries_in edit.now)) table.now }
+    ensures change { IfOk result (IsChangeWithTable root.now mounts.now (entries_in edit.now) table.now) }
+    ensures table { IsTable root.now mounts.now }
+{
+    match table {
+        Some(table) => change_and_table(alloc, root, mounts, edit, table),
+        None => change_of(alloc, root, mounts, edit),
+    }
 }

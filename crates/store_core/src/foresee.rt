@@ -1,16 +1,17 @@
 //! What will be found of a store once an edit is made.
 
-ghost use Rattle.std.specs.Prelude.{◌≡◌, ◌<◌, ◌-◌, ◌∷◌, [], set, slice_index_or, is_some, IfOk, OnOk};
+ghost use Rattle.std.specs.Prelude.{◌≡◌, ◌<◌, ◌-◌, ◌∷◌, [], set, slice_index_or, Some, IfOk, OnOk};
 ghost use Rattle.std.specs.FinMap as map;
 ghost use Rattle.mount_table.specs.Mounts.{IsMountOf, IsMountOfFolder};
 ghost use Rattle.path_rules.specs.RuleMap.{rule_at};
 ghost use Rattle.store_core.specs.Edit.{OfSecret, OfRule, OfTemplate, one_more, resized, with_row};
 ghost use Rattle.store_core.specs.Entries.{entries_in, text_in};
-ghost use Rattle.store_core.specs.Applying.{IsMadeBy, IsSetAmong};
+ghost use Rattle.store_core.specs.WithTable.{IsMadeWithTable};
+ghost use Rattle.store_core.specs.Applying.{IsMadeBy, IsSetAmong, IsSetCounted};
 
 use crate::edit::Edit;
 use gopass_base::NoMemory;
-use mount_table::{Folder, Name};
+use mount_table::{Folder, Mounts, Name};
 use path_rules::Rules;
 use recipient_files::Recipients;
 use std::alloc::Global;
@@ -65,6 +66,21 @@ fn recount(counts: &mut Vec<usize>, row: usize, was: bool, is: bool)
     }
 }
 
+/// The item is among these or not, and its file is counted in this row or not.
+fn set_counted<T: Ord + Drop>(
+    items: &mut Vec<T>,
+    counts: &mut Vec<usize>,
+    row: usize,
+    item: T,
+    is: bool,
+) -> Result<(), NoMemory>
+    ensures { OnOk result (IsSetCounted T.cmp items.old.items items.new.items counts.old.items counts.new.items row item is) }
+{
+    let was = set_among(items, item, is)?;
+    recount(counts, row, was, is);
+    Ok(())
+}
+
 /// The folder has this rule, or none.
 fn set_rule(rules: &mut Rules, folder: &Folder, ids: &Option<Recipients>) -> Result<(), NoMemory>
     ensures { OnOk result (rules.new ≡ with_row rules.old folder.now ids.now) }
@@ -88,10 +104,14 @@ fn foresee_secret(
     ensures { OnOk result (IsMadeBy (OfSecret name.now (text_in bytes.now) ∷ []) found.old found.new) }
 {
     let row = found.mounts.resolve(name).row;
-    let is = bytes.is_some();
-    let was = set_among(&mut found.seen.names, name.copy(alloc)?, is)?;
-    recount(&mut found.counts, row, was, is);
-    Ok(())
+    let name = name.copy(alloc)?;
+    set_counted(
+        &mut found.seen.names,
+        &mut found.counts,
+        row,
+        name,
+        bytes.is_some(),
+    )
 }
 
 /// A rule comes, goes or is another.
@@ -104,11 +124,15 @@ fn foresee_rule(
     ensures { OnOk result (IsMadeBy (OfRule folder.now ids.now ∷ []) found.old found.new) }
 {
     let row = found.mounts.resolve_folder(folder);
-    let is = ids.is_some();
     set_rule(&mut found.rules, folder, ids)?;
-    let was = set_among(&mut found.seen.rules, folder.copy(alloc)?, is)?;
-    recount(&mut found.counts, row, was, is);
-    Ok(())
+    let folder = folder.copy(alloc)?;
+    set_counted(
+        &mut found.seen.rules,
+        &mut found.counts,
+        row,
+        folder,
+        ids.is_some(),
+    )
 }
 
 /// A template comes, goes or is written over.
@@ -121,10 +145,14 @@ fn foresee_template(
     ensures { OnOk result (IsMadeBy (OfTemplate folder.now (text_in bytes.now) ∷ []) found.old found.new) }
 {
     let row = found.mounts.resolve_folder(folder);
-    let is = bytes.is_some();
-    let was = set_among(&mut found.seen.templates, folder.copy(alloc)?, is)?;
-    recount(&mut found.counts, row, was, is);
-    Ok(())
+    let folder = folder.copy(alloc)?;
+    set_counted(
+        &mut found.seen.templates,
+        &mut found.counts,
+        row,
+        folder,
+        bytes.is_some(),
+    )
 }
 
 /// What is found once the edit is made.
@@ -142,4 +170,33 @@ pub(crate) fn foresee(alloc: Global, found: &Found, edit: &Edit) -> Result<Found
         foresee_template(alloc, &mut next, owner, bytes)?;
     }
     Ok(next)
+}
+
+/// What is found once the edit is made, with this table.
+fn foresee_and_table(
+    alloc: Global,
+    found: &Found,
+    edit: &Edit,
+    table: &Mounts,
+) -> Result<Found, NoMemory>
+    ensures { IfOk result (IsMadeWithTable (entries_in edit.now) (Some table.now) found.now) }
+{
+    let mut next = foresee(alloc, found, edit)?;
+    next.mounts = table.copy()?;
+    Ok(next)
+}
+
+/// What is found once the edit is made, and with another table where there is one.
+pub(crate) fn foresee_with_table(
+    alloc: Global,
+    found: &Found,
+    edit: &Edit,
+    table: &Option<Mounts>,
+) -> Result<Found, NoMemory>
+    ensures { IfOk result (IsMadeWithTable (entries_in edit.now) table.now found.now) }
+{
+    match table {
+        Some(table) => foresee_and_table(alloc, found, edit, table),
+        None => foresee(alloc, found, edit),
+    }
 }

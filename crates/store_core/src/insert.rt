@@ -15,6 +15,7 @@ ghost use Rattle.store_core.specs.Refusals.{IsAbout};
 ghost use Rattle.store_core.specs.Insert.{plan_insert};
 ghost use Rattle.store_core.specs.Edit.{OfSecret};
 ghost use Rattle.store_core.specs.Entries.{entries_in};
+ghost use Rattle.store_core.specs.Applying.{IsMadeBy};
 ghost use Rattle.store_core.specs.Inserting.{IsTested, IsUnruled, SealsBody};
 
 use crate::edit::Edit;
@@ -129,6 +130,8 @@ impl<D: Disk> Store<D> {
         ensures keeps { Keeps 1 self.old self.new (one_tool C.meaning tool.old) (one_tool C.meaning tool.new)
             (outcome_by (λ done. []) result) }
         ensures about { IfErr result (IsAbout name.now) }
+        ensures kept { OnOk result ((bytes : Text) × IsMadeBy (OfSecret name.now (Some bytes) ∷ []) self.old.found self.new.found) }
+        ensures same { OnErr result (self.new.found ≡ self.old.found) }
         ensures stuck { result ≡ Err Refusal.Disk → IsTrue self.new.vault.stuck }
         ensures counted { OnOk result (self.new.vault.commits ≡ counted self.old.vault.commits) }
         ensures uncounted { OnErr result (self.new.vault.commits ≡ self.old.vault.commits) }

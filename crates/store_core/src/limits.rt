@@ -36,12 +36,12 @@ fn one_full(counts: &[usize]) -> bool
 fn limit_among(rules: &[Folder], secrets: &[Name], counts: &[usize]) -> Option<Limit>
     ensures { result ≡ limit_among (length rules.now) (length secrets.now) counts.now }
 {
-    if rules.len() > MOST_RULES {
+    if one_full(counts) {
+        Some(Limit::Files)
+    } else if rules.len() > MOST_RULES {
         Some(Limit::Rules)
     } else if secrets.len() > MOST_SECRETS {
         Some(Limit::Secrets)
-    } else if one_full(counts) {
-        Some(Limit::Files)
     } else {
         None
     }
@@ -55,8 +55,8 @@ fn are_table(mounts: &Mounts)
 }
 
 impl<D: Disk> Store<D> {
-    /// The first limit that the store passes once the edit is made: 512 rules, 8,192 secrets, 40,000
-    /// files below the directory of a mount; or none.
+    /// The first limit that the store passes once the edit is made: 40,000 files below the directory of
+    /// a mount, 512 rules, 8,192 secrets; or none.
     pub fn limit_of(&self, edit: &Edit) -> Result<Option<Limit>, NoMemory>
         requires free { IsFalse self.now.vault.stuck }
         requires few { length (entries_in edit.now) ≤ most_steps }

@@ -1,9 +1,9 @@
-use Rattle.std.proofs.Common.{◌≡◌, ◌≤◌, ◌+◌, ◌++◌, List, Option, Vec, Global, ℕ, length, take, drop, sym, ◌∙◌, ap, subst, arith}
+use Rattle.std.proofs.Common.{◌≤◌, ◌+◌, ◌++◌, List, Option, Vec, Global, ℕ, length, take, drop, sym, ◌∙◌, ap, subst, arith}
 use Rattle.gopass_base.specs.Text.{Text}
 use Rattle.recipient_files.specs.Ids.{Ids}
 use Rattle.mount_table.specs.Mounts.{IsTable}
 use Rattle.store_core.specs.Edit.{Differ, Entry}
-use Rattle.store_core.specs.Entries.{entries_in, rule_entry, rules_in, secret_entry, secrets_in, template_entry, templates_in}
+use Rattle.store_core.specs.Entries.{rule_entry, rules_in, secret_entry, secrets_in, template_entry, templates_in}
 use Rattle.store_core.proofs.EntryLemmas.{about_behind, about_first, about_last, next_behind, next_last, next_of}
 use Rattle.store_core.proofs.ChangeOfLemmas.{has_more, may_add}
 use Rattle.store_core.proofs.change_of.change_of.Goals as goal

@@ -1,4 +1,4 @@
-use Rattle.std.proofs.Common.{◌≡◌, ℕ, List, sym, ap}
+use Rattle.std.proofs.Common.{ℕ, List, sym, ap}
 use Rattle.std.specs.Prelude.{slice_index_or}
 use Rattle.path_rules.specs.Governing.{governing_ids}
 use Rattle.store_state.proofs.AgreeLemmas.{agrees}

@@ -1,8 +1,9 @@
-use Rattle.std.proofs.Common.{rules, Global, List, [], ◌∷◌, Some, None, Ok, Err, refl, sym, ◌∙◌, ap, subst, arith}
+use Rattle.std.proofs.Common.{rules, Global, List, [], ◌∷◌, None, Ok, Err, refl, sym, ◌∙◌, ap, subst, arith}
 use Rattle.std.specs.Prelude.{slice_index_or, length}
 use Rattle.std.proofs.lemmas.Result.{err_from_is_err_and}
 use Rattle.path_rules.specs.Governing.{governing_ids}
 use Rattle.cipher_port.specs.Tool.{Ring, made_of}
+use Rattle.store_core.specs.Applying.{IsMadeBy}
 use Rattle.store_core.specs.Entries.{entries_in}
 use Rattle.store_core.specs.Edit.{Differ, Entry, IsWithin, edited, paths_in}
 use Rattle.store_core.specs.Performs.{KeepsElsewhere}
@@ -12,7 +13,7 @@ use Rattle.store_state.specs.State.{Sealed}
 use Rattle.store_core.specs.Insert.{plan_insert, with_cell}
 use Rattle.store_core.specs.Inserting.{SealsBody, limit_by}
 use Rattle.store_state.proofs.AgreeLemmas.{mounts_agree}
-use Rattle.store_core.proofs.CommandLemmas.{edit_keeps, edit_performs}
+use Rattle.store_core.proofs.CommandLemmas.{edit_keeps, edit_performs, where_made}
 use Rattle.store_core.proofs.PerformLemmas.{Still, rests_elsewhere, still_same}
 use Rattle.store_core.proofs.InsertLemmas.{insert_no_memory_then, plan_sealed}
 use Rattle.store_core.proofs.InsertFacts.{ids_are, way_is, limit_is, insert_unruled, insert_tested, insert_unsealed}
@@ -180,3 +181,7 @@ pub returns-clause-elsewhere : goal.returns-clause-elsewhere
 returns-clause-elsewhere g c told =
     let self = c.args.self.now in
     subst (λ (es : List Entry). KeepsElsewhere self.vault.root (paths_in self.found.mounts es) (moment_of self no_tools) (moment_of c.apply.new.self no_tools)) c.in_ok-edit.ensures (c.apply.ensures.elsewhere told)
+
+pub returns-clause-kept : goal.returns-clause-kept
+returns-clause-kept g c =
+    where_made c.apply.result c.refused_by.result c.refused_by.ensures (λ made. (c.in_ok-sealed.sealed.items, subst (λ (es : List Entry). IsMadeBy es c.args.self.now.found c.apply.new.self.found) c.in_ok-edit.ensures made)) c.apply.ensures.kept

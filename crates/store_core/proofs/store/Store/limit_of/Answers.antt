@@ -1,6 +1,5 @@
-use Rattle.std.proofs.Common.{◌≡◌, ◌∙◌, List, ℕ, length, ap, sym}
-use Rattle.std.specs.Prelude.{Option, Result, Ok, Err, None, Some}
-use Rattle.store_state.specs.declared.fault.Limit.{Limit}
+use Rattle.std.proofs.Common.{◌≡◌, ◌∙◌, length, sym}
+use Rattle.std.specs.Prelude.{None}
 use Rattle.store_core.specs.Entries.{entries_in}
 use Rattle.store_core.specs.Edit.{edited, limit_among, limit_in}
 use Rattle.store_core.proofs.LimitLemmas.{foreseen_limit, none_within, ok_is}
