@@ -70,29 +70,46 @@ fn paths_have_their_limits(rt: HostRuntime) -> Result<(), Fail> {
     Ok(())
 }
 
+/// Whether the directory's file `b` is this one.
+fn joins(alloc: Global, dir: &DirPath, inner: &FilePath) -> Result<bool, Fail> {
+    Ok(dir.join(alloc, "b")? == *inner)
+}
+
+/// Whether files are compared by their bytes, and a directory's file is found equal.
+fn files_are_ordered(alloc: Global, dir: &DirPath) -> Result<bool, Fail> {
+    let inner = FilePath::read(alloc, "a/b")?;
+    let next = FilePath::read(alloc, "a0")?;
+    Ok(joins(alloc, dir, &inner)? && inner != next && inner < next)
+}
+
+/// Whether the directory stands before `a0`.
+fn is_before(alloc: Global, dir: &DirPath) -> Result<bool, Fail> {
+    let beside = DirPath::read(alloc, "a0")?;
+    Ok(*dir != beside && *dir < beside)
+}
+
 #[test]
 fn paths_are_in_the_order_of_their_bytes(rt: HostRuntime) -> Result<(), Fail> {
     let dir = DirPath::read(rt.alloc(), "a")?;
-    let inner = FilePath::read(rt.alloc(), "a/b")?;
-    let next = FilePath::read(rt.alloc(), "a0")?;
-    assert!(rt; dir.join(rt.alloc(), "b")? == inner);
-    assert!(rt; inner != next);
-    assert!(rt; inner < next);
-    let beside = DirPath::read(rt.alloc(), "a0")?;
-    assert!(rt; dir != beside);
-    assert!(rt; dir < beside);
+    assert!(rt; files_are_ordered(rt.alloc(), &dir)?);
+    assert!(rt; is_before(rt.alloc(), &dir)?);
     Ok(())
+}
+
+/// Whether the service file has this path below `root`.
+fn has_service_file(alloc: Global, file: ServiceFile, path: &str) -> Result<bool, Fail> {
+    let root = DirPath::read(alloc, "root")?;
+    Ok(root.service_file(alloc, file)?.text() == path)
 }
 
 #[test]
 fn a_directory_names_the_service_files(rt: HostRuntime) -> Result<(), Fail> {
-    let root = DirPath::read(rt.alloc(), "root")?;
     for (file, path) in [
         (ServiceFile::Journal, "root/.gopass-journal"),
         (ServiceFile::Mounts, "root/.gopass-mounts"),
         (ServiceFile::Pending, "root/.gopass-pending"),
     ] {
-        assert_eq!(rt; root.service_file(rt.alloc(), file)?.text(), path);
+        assert!(rt; has_service_file(rt.alloc(), file, path)?, "{path}");
     }
     Ok(())
 }
