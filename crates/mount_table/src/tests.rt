@@ -1,5 +1,6 @@
 use super::*;
 use std::alloc::{AllocError, Global};
+use std::process::Abort;
 use std::test::*;
 
 /// Parts of these lengths, with `/` between them.
@@ -20,6 +21,16 @@ fn name_fault(at: usize, kind: NameKind) -> Option<NameFault> {
     Some(NameFault::Bad(BadName { at, kind }))
 }
 
+/// Why the text is no name.
+fn name_fault_of(alloc: Global, text: &str) -> Option<NameFault> {
+    Name::read(alloc, text).err()
+}
+
+fn name_fault_by_lengths(alloc: Global, lengths: &[usize]) -> Result<Option<NameFault>, Fail> {
+    let text = text_of(alloc, lengths)?;
+    Ok(name_fault_of(alloc, &text))
+}
+
 #[test]
 fn names_read_or_fail_at_their_first_fault(rt: HostRuntime) -> Result<(), Fail> {
     for (text, fault) in [
@@ -33,7 +44,7 @@ fn names_read_or_fail_at_their_first_fault(rt: HostRuntime) -> Result<(), Fail> 
         ("a\x7f", name_fault(0, NameKind::Control)),
         ("x.gpg/y", name_fault(0, NameKind::FolderGpg)),
     ] {
-        assert_eq!(rt; Name::read(rt.alloc(), text).err(), fault, "at {text}");
+        assert_eq!(rt; name_fault_of(rt.alloc(), text), fault, "at {text}");
     }
     for (lengths, fault) in [
         ([1; 16].as_slice(), None),
@@ -43,37 +54,61 @@ fn names_read_or_fail_at_their_first_fault(rt: HostRuntime) -> Result<(), Fail> 
         (&[100, 100, 100, 97], None),
         (&[100, 100, 100, 98], name_fault(400, NameKind::LongName)),
     ] {
-        let text = text_of(rt.alloc(), lengths)?;
-        assert_eq!(rt; Name::read(rt.alloc(), &text).err(), fault, "at {text}");
+        assert_eq!(rt; name_fault_by_lengths(rt.alloc(), lengths)?, fault);
     }
     Ok(())
+}
+
+/// Whether the first name holds the second.
+fn name_holds(alloc: Global, outer: &str, inner: &str) -> Result<bool, Fail> {
+    let outer = Name::read(alloc, outer)?;
+    Ok(outer.holds(&Name::read(alloc, inner)?))
 }
 
 #[test]
 fn a_name_holds_the_names_below_it(rt: HostRuntime) -> Result<(), Fail> {
-    let outer = Name::read(rt.alloc(), "a")?;
-    for (name, holds) in [("a/b", true), ("a", false), ("ab/c", false)] {
-        let name = Name::read(rt.alloc(), name)?;
-        assert_eq!(rt; outer.holds(&name), holds);
-    }
+    assert!(rt; name_holds(rt.alloc(), "a", "a/b")?);
+    assert!(rt; !name_holds(rt.alloc(), "a", "a")?);
+    assert!(rt; !name_holds(rt.alloc(), "a", "ab/c")?);
     Ok(())
+}
+
+/// Whether the name has this file below `root`.
+fn has_file(alloc: Global, name: &str, file: &str) -> Result<bool, Fail> {
+    let root = DirPath::read(alloc, "root")?;
+    let name = Name::read(alloc, name)?;
+    Ok(name.file_in(alloc, &root)?.text() == file)
 }
 
 #[test]
 fn a_directory_names_its_files(rt: HostRuntime) -> Result<(), Fail> {
-    let root = DirPath::read(rt.alloc(), "root")?;
-    for (name, file) in [
-        ("web/site", "root/web/site.gpg"),
-        ("y/x.gpg", "root/y/x.gpg.gpg"),
-    ] {
-        let name = Name::read(rt.alloc(), name)?;
-        assert_eq!(rt; name.file_in(rt.alloc(), &root)?.text(), file);
-    }
+    assert!(rt; has_file(rt.alloc(), "web/site", "root/web/site.gpg")?);
+    assert!(rt; has_file(rt.alloc(), "y/x.gpg", "root/y/x.gpg.gpg")?);
     Ok(())
 }
 
-#[test]
-fn folders_read_with_a_slash_or_without(rt: HostRuntime) -> Result<(), Fail> {
+/// Why the text names no folder.
+fn folder_fault_of(alloc: Global, text: &str) -> Option<NameFault> {
+    Folder::read(alloc, text).err()
+}
+
+fn folder_fault_by_lengths(alloc: Global, lengths: &[usize]) -> Result<Option<NameFault>, Fail> {
+    let text = text_of(alloc, lengths)?;
+    Ok(folder_fault_of(alloc, &text))
+}
+
+/// Whether the text names the folder with the other text.
+fn names_folder(alloc: Global, text: &str, folder: &str) -> Result<bool, Fail> {
+    Ok(Folder::read(alloc, text)?.text() == folder)
+}
+
+/// Whether the folder holds the name.
+fn folder_holds(alloc: Global, folder: &str, name: &str) -> Result<bool, Fail> {
+    let folder = Folder::read(alloc, folder)?;
+    Ok(folder.holds(&Name::read(alloc, name)?))
+}
+
+fn folders_fail_at_their_first_fault(rt: &impl Abort, alloc: Global) {
     for (text, fault) in [
         ("/", None),
         ("a", None),
@@ -85,8 +120,14 @@ fn folders_read_with_a_slash_or_without(rt: HostRuntime) -> Result<(), Fail> {
         ("a/x.gpg", name_fault(2, NameKind::FolderGpg)),
         ("x.gpg/y", name_fault(0, NameKind::FolderGpg)),
     ] {
-        assert_eq!(rt; Folder::read(rt.alloc(), text).err(), fault, "at {text}");
+        assert_eq!(rt; folder_fault_of(alloc, text), fault, "at {text}");
     }
+}
+
+#[test]
+fn folders_read_with_a_slash_or_without(rt: HostRuntime) -> Result<(), Fail> {
+    let alloc = rt.alloc();
+    folders_fail_at_their_first_fault(&rt, alloc);
     for (lengths, fault) in [
         ([100, 100, 100, 97].as_slice(), None),
         (&[100, 100, 100, 98], name_fault(400, NameKind::LongName)),
@@ -94,11 +135,10 @@ fn folders_read_with_a_slash_or_without(rt: HostRuntime) -> Result<(), Fail> {
         ([1; 17].as_slice(), name_fault(32, NameKind::ManyParts)),
         (&[101], name_fault(0, NameKind::LongPart)),
     ] {
-        let text = text_of(rt.alloc(), lengths)?;
-        assert_eq!(rt; Folder::read(rt.alloc(), &text).err(), fault, "at {text}");
+        assert_eq!(rt; folder_fault_by_lengths(alloc, lengths)?, fault);
     }
     for (text, folder) in [("/", ""), ("a/b", "a/b"), ("a/b/", "a/b")] {
-        assert_eq!(rt; Folder::read(rt.alloc(), text)?.text(), folder);
+        assert!(rt; names_folder(alloc, text, folder)?, "at {text}");
     }
     for (folder, name, holds) in [
         ("/", "a", true),
@@ -107,98 +147,175 @@ fn folders_read_with_a_slash_or_without(rt: HostRuntime) -> Result<(), Fail> {
         ("a/b", "a/bc/d", false),
         ("a/b", "a", false),
     ] {
-        let folder = Folder::read(rt.alloc(), folder)?;
-        let name = Name::read(rt.alloc(), name)?;
-        assert_eq!(rt; folder.holds(&name), holds);
+        assert_eq!(rt; folder_holds(alloc, folder, name)?, holds);
     }
     Ok(())
 }
 
-/// The mounts `work` at `w` and `work/db` at `d`, beside the root's.
-fn work_mounts(rt: &HostRuntime) -> Result<Mounts, Fail> {
-    let mut mounts = Mounts::only(rt.alloc(), &DirPath::read(rt.alloc(), "root")?)?;
-    for (alias, dir) in [("work/db", "d"), ("work", "w")] {
-        let alias = Folder::read(rt.alloc(), alias)?;
-        let dir = DirPath::read(rt.alloc(), dir)?;
-        mounts.add(&alias, &dir)?;
+/// The mount of the root alone.
+fn root_mount(alloc: Global) -> Result<Mounts, Fail> {
+    let root = DirPath::read(alloc, "root")?;
+    Ok(Mounts::only(alloc, &root)?)
+}
+
+/// Adds the mount, and tells why it is refused where it is.
+fn add(
+    alloc: Global,
+    mounts: &mut Mounts,
+    alias: &str,
+    dir: &str,
+) -> Result<Option<AddFault>, Fail> {
+    let alias = Folder::read(alloc, alias)?;
+    let dir = DirPath::read(alloc, dir)?;
+    Ok(mounts.add(&alias, &dir).err())
+}
+
+fn added(alloc: Global, mounts: &mut Mounts, alias: &str, dir: &str) -> Result<(), Fail> {
+    match add(alloc, mounts, alias, dir)? {
+        Some(fault) => Err(Fail::from(fault)),
+        None => Ok(()),
     }
+}
+
+/// The mounts `work` at `w` and `work/db` at `d`, beside the root's.
+fn work_mounts(alloc: Global) -> Result<Mounts, Fail> {
+    let mut mounts = root_mount(alloc)?;
+    added(alloc, &mut mounts, "work/db", "d")?;
+    added(alloc, &mut mounts, "work", "w")?;
     Ok(mounts)
 }
 
-#[test]
-fn the_mount_of_a_name_has_the_longest_alias(rt: HostRuntime) -> Result<(), Fail> {
-    let mounts = work_mounts(&rt)?;
+/// Whether the secret lies at this place, in this file.
+fn lies_at(
+    alloc: Global,
+    mounts: &Mounts,
+    name: &str,
+    place: Place,
+    file: &str,
+) -> Result<bool, Fail> {
+    let name = Name::read(alloc, name)?;
+    Ok(mounts.file_of(&name)?.text() == file && mounts.resolve(&name) == place)
+}
+
+fn row_of(alloc: Global, mounts: &Mounts, folder: &str) -> Result<usize, Fail> {
+    let folder = Folder::read(alloc, folder)?;
+    Ok(mounts.resolve_folder(&folder))
+}
+
+fn names_are_resolved(rt: &impl Abort, alloc: Global, mounts: &Mounts) -> Result<(), Fail> {
     for (name, row, from, file) in [
         ("work/db/x", 2, 8, "d/x.gpg"),
         ("work/dbx/x", 1, 5, "w/dbx/x.gpg"),
         ("work/db", 1, 5, "w/db.gpg"),
         ("work", 0, 0, "root/work.gpg"),
     ] {
-        let name = Name::read(rt.alloc(), name)?;
-        assert_eq!(rt; mounts.resolve(&name), Place { row, from });
-        assert_eq!(rt; mounts.file_of(&name)?.text(), file);
+        assert!(rt;
+            lies_at(alloc, mounts, name, Place { row, from }, file)?,
+            "at {name}"
+        );
     }
     for (folder, row) in [("work/db", 2), ("work/dbx", 1), ("work", 1), ("/", 0)] {
-        let folder = Folder::read(rt.alloc(), folder)?;
-        assert_eq!(rt; mounts.resolve_folder(&folder), row);
+        assert_eq!(rt; row_of(alloc, mounts, folder)?, row, "at {folder}");
     }
     Ok(())
 }
 
 #[test]
-fn mounts_come_and_go(rt: HostRuntime) -> Result<(), Fail> {
-    let mut mounts = work_mounts(&rt)?;
+fn the_mount_of_a_name_has_the_longest_alias(rt: HostRuntime) -> Result<(), Fail> {
+    let mounts = work_mounts(rt.alloc())?;
+    names_are_resolved(&rt, rt.alloc(), &mounts)
+}
+
+/// Whether no mount of this alias is removed.
+fn is_absent(alloc: Global, mounts: &mut Mounts, alias: &str) -> Result<bool, Fail> {
+    let alias = Folder::read(alloc, alias)?;
+    Ok(mounts.remove(&alias).is_err())
+}
+
+/// Whether the mount of the alias that is removed had this directory.
+fn is_removed(alloc: Global, mounts: &mut Mounts, alias: &str, dir: &str) -> Result<bool, Fail> {
+    let alias = Folder::read(alloc, alias)?;
+    Ok(mounts.remove(&alias)?.dir.text() == dir)
+}
+
+/// Whether the mounts are written so.
+fn is_written(mounts: &Mounts, text: &[u8]) -> Result<bool, Fail> {
+    Ok(mounts.write()?.as_slice() == text)
+}
+
+fn refuse(rt: &impl Abort, alloc: Global, mounts: &mut Mounts) -> Result<(), Fail> {
     for (alias, dir, fault) in [
         ("x", "w/y", AddFault::DirNests(1)),
         ("x", "root", AddFault::DirNests(0)),
         ("work", "z", AddFault::AliasUsed),
         ("/", "w", AddFault::AliasUsed),
     ] {
-        let alias = Folder::read(rt.alloc(), alias)?;
-        let dir = DirPath::read(rt.alloc(), dir)?;
-        assert_eq!(rt; mounts.add(&alias, &dir).err(), Some(fault));
+        assert_eq!(rt; add(alloc, mounts, alias, dir)?, Some(fault), "{alias}");
     }
-    let work = Folder::read(rt.alloc(), "work")?;
     for absent in ["/", "x"] {
-        let absent = Folder::read(rt.alloc(), absent)?;
-        assert!(rt; mounts.remove(&absent).is_err());
+        assert!(rt; is_absent(alloc, mounts, absent)?, "{absent}");
     }
+    Ok(())
+}
+
+fn go(rt: &impl Abort, alloc: Global, mounts: &mut Mounts) -> Result<(), Fail> {
     assert!(rt; mounts.rows().len() > 2);
     mounts.set_git(2);
-    assert_eq!(rt; mounts.remove(&work)?.dir.text(), "w");
-    assert_eq!(rt;
-        mounts.write()?.as_slice(),
-        b"\troot\tplain\nwork/db\td\tgit\n".as_slice()
-    );
+    assert!(rt; is_removed(alloc, mounts, "work", "w")?);
+    assert!(rt; is_written(mounts, b"\troot\tplain\nwork/db\td\tgit\n")?);
     Ok(())
 }
 
 #[test]
-fn at_most_64_mounts(rt: HostRuntime) -> Result<(), Fail> {
-    let mut mounts = Mounts::only(rt.alloc(), &DirPath::read(rt.alloc(), "root")?)?;
+fn mounts_come_and_go(rt: HostRuntime) -> Result<(), Fail> {
+    let mut mounts = work_mounts(rt.alloc())?;
+    refuse(&rt, rt.alloc(), &mut mounts)?;
+    go(&rt, rt.alloc(), &mut mounts)
+}
+
+/// Adds a mount whose alias and directory have this length.
+fn add_long(alloc: Global, mounts: &mut Mounts, length: usize) -> Result<Option<AddFault>, Fail> {
+    let text = text_of(alloc, &[length])?;
+    add(alloc, mounts, &text, &text)
+}
+
+fn takes_64(rt: &impl Abort, alloc: Global, mounts: &mut Mounts) -> Result<(), Fail> {
     for length in 1..65 {
-        let text = text_of(rt.alloc(), &[length])?;
-        let alias = Folder::read(rt.alloc(), &text)?;
-        let dir = DirPath::read(rt.alloc(), &text)?;
         let fault = if length == 64 {
             Some(AddFault::Full)
         } else {
             None
         };
-        assert_eq!(rt; mounts.add(&alias, &dir).err(), fault);
+        assert_eq!(rt; add_long(alloc, mounts, length)?, fault, "{length}");
     }
     assert_eq!(rt; mounts.rows().len(), 64);
     Ok(())
 }
 
 #[test]
+fn at_most_64_mounts(rt: HostRuntime) -> Result<(), Fail> {
+    let mut mounts = root_mount(rt.alloc())?;
+    takes_64(&rt, rt.alloc(), &mut mounts)
+}
+
+const TABLE: &[u8] = b"\troot\tplain\nwork\tw\tplain\nwork/db\td\tplain\n";
+
+fn mounts_fault(alloc: Global, bytes: &[u8]) -> Result<Option<MountsFault>, Fail> {
+    let root = DirPath::read(alloc, "root")?;
+    Ok(Mounts::read(alloc, bytes, &root).err())
+}
+
+/// Whether a copy of the mounts is written so.
+fn copy_is_written(mounts: &Mounts, text: &[u8]) -> Result<bool, Fail> {
+    is_written(&mounts.copy()?, text)
+}
+
+#[test]
 fn mounts_are_written_as_they_are_read(rt: HostRuntime) -> Result<(), Fail> {
-    let root = DirPath::read(rt.alloc(), "root")?;
-    let text = b"\troot\tplain\nwork\tw\tplain\nwork/db\td\tplain\n";
-    let mounts = work_mounts(&rt)?.copy()?;
-    assert_eq!(rt; mounts.write()?.as_slice(), text.as_slice());
+    let is_table = copy_is_written(&work_mounts(rt.alloc())?, TABLE)?;
+    assert!(rt; is_table);
     for (bytes, line) in [
-        (text.as_slice(), None),
+        (TABLE, None),
         (b"\troot\tplain\nwork\tw\tplain\nwork/db\td\tplain", Some(3)),
         (b"", Some(1)),
         (b"\tother\tplain\n", Some(1)),
@@ -212,7 +329,7 @@ fn mounts_are_written_as_they_are_read(rt: HostRuntime) -> Result<(), Fail> {
         (b"\troot\tplain\n\xff\tx\tgit\n", Some(2)),
     ] {
         let fault = line.map(|line| MountsFault::BadLine(line));
-        assert_eq!(rt; Mounts::read(rt.alloc(), bytes, &root).err(), fault);
+        assert_eq!(rt; mounts_fault(rt.alloc(), bytes)?, fault);
     }
     Ok(())
 }
