@@ -39,6 +39,11 @@ fn again(alloc: Global, bytes: &[u8]) -> Result<Vec<u8>, RuleFault> {
     }
 }
 
+/// Whether the rule file is written so.
+fn is_read_as(alloc: Global, bytes: &[u8], text: &str) -> Result<bool, Fail> {
+    Ok(again(alloc, bytes)?.as_slice() == text.as_bytes())
+}
+
 #[test]
 fn a_rule_file_is_read_as_its_set(rt: HostRuntime) -> Result<(), Fail> {
     for (bytes, want) in [
@@ -48,11 +53,12 @@ fn a_rule_file_is_read_as_its_set(rt: HostRuntime) -> Result<(), Fail> {
         ("#alice\nbob#alice#\n   \n # \n", "bob\n"),
         ("\n\n\nalice\n\n", "alice\n"),
     ] {
-        let text = again(rt.alloc(), bytes.as_bytes())?;
-        assert_eq!(rt; text.as_slice(), want.as_bytes(), "at {bytes:?}");
+        assert!(rt;
+            is_read_as(rt.alloc(), bytes.as_bytes(), want)?,
+            "at {bytes:?}"
+        );
     }
-    let text = again(rt.alloc(), b"alice # \xff\n")?;
-    assert_eq!(rt; text.as_slice(), b"alice\n".as_slice());
+    assert!(rt; is_read_as(rt.alloc(), b"alice # \xff\n", "alice\n")?);
     Ok(())
 }
 
@@ -88,53 +94,93 @@ fn a_rule_file_names_64_ids_at_most(rt: HostRuntime) -> Result<(), Fail> {
     Ok(())
 }
 
+fn has_ids(alloc: Global, set: &Recipients, wanted: &[&str]) -> Result<bool, Fail> {
+    Ok(set.ids() == ids(alloc, wanted)?.as_slice())
+}
+
 #[test]
 fn ids_are_sorted_and_count_once(rt: HostRuntime) -> Result<(), Fail> {
-    let given = ids(rt.alloc(), &["bob", "alice", "bob"])?;
-    let set = Recipients::of(rt.alloc(), &given)?;
-    let wanted = ids(rt.alloc(), &["alice", "bob"])?;
-    assert_eq!(rt; set.ids(), wanted.as_slice());
+    let set = set_of(rt.alloc(), &ids(rt.alloc(), &["bob", "alice", "bob"])?)?;
+    assert!(rt; has_ids(rt.alloc(), &set, &["alice", "bob"])?);
     Ok(())
+}
+
+/// How many ids a set of as many different ones has.
+fn count_of(alloc: Global, count: u8) -> Result<usize, Fail> {
+    Ok(set_of(alloc, &numbered(alloc, count)?)?.ids().len())
+}
+
+/// How many ids a set of 64 has, one of which is given twice.
+fn count_of_most(alloc: Global) -> Result<usize, Fail> {
+    let mut most = numbered(alloc, 64)?;
+    most.push(Id::read(alloc, "id-07")?)?;
+    Ok(set_of(alloc, &most)?.ids().len())
+}
+
+fn is_too_many(alloc: Global) -> Result<bool, Fail> {
+    let more = numbered(alloc, 65)?;
+    Ok(matches!(Recipients::of(alloc, &more), Err(OfFault::TooMany)))
 }
 
 #[test]
 fn a_set_has_1_to_64_ids(rt: HostRuntime) -> Result<(), Fail> {
     let none = Recipients::of(rt.alloc(), &[]);
     assert!(rt; matches!(none, Err(OfFault::Empty)));
-    let mut most = numbered(rt.alloc(), 64)?;
-    assert_eq!(rt; Recipients::of(rt.alloc(), &most)?.ids().len(), 64);
-    most.push(Id::read(rt.alloc(), "id-07")?)?;
-    assert_eq!(rt; Recipients::of(rt.alloc(), &most)?.ids().len(), 64);
-    let too_many = Recipients::of(rt.alloc(), &numbered(rt.alloc(), 65)?);
-    assert!(rt; matches!(too_many, Err(OfFault::TooMany)));
+    assert_eq!(rt; count_of(rt.alloc(), 64)?, 64);
+    assert_eq!(rt; count_of_most(rt.alloc())?, 64);
+    assert!(rt; is_too_many(rt.alloc())?);
     Ok(())
+}
+
+/// Whether a set of bob refuses to add him, and to take out him or another.
+fn is_kept(set: &mut Recipients, alice: &Id, bob: &Id) -> bool {
+    set.add(bob) == Err(IdAddFault::Already)
+        && set.remove(alice) == Err(IdRemoveFault::Absent)
+        && set.remove(bob) == Err(IdRemoveFault::Last)
+}
+
+fn is_written(set: &Recipients, text: &[u8]) -> Result<bool, Fail> {
+    Ok(set.write()?.as_slice() == text)
+}
+
+/// Whether alice is added to the set and taken out again.
+fn comes_and_goes(set: &mut Recipients, kept: &Recipients, alice: &Id) -> Result<bool, Fail> {
+    let is_added = set.add(alice) == Ok(()) && !set.same(kept);
+    let is_written = is_written(set, b"alice\nbob\n")?;
+    Ok(is_added && is_written && set.remove(alice) == Ok(()) && set.same(kept))
+}
+
+fn bob_and_alice(alloc: Global, set: &mut Recipients, kept: &Recipients) -> Result<bool, Fail> {
+    let alice = Id::read(alloc, "alice")?;
+    let bob = Id::read(alloc, "bob")?;
+    Ok(is_kept(set, &alice, &bob) && set.same(kept) && comes_and_goes(set, kept, &alice)?)
+}
+
+fn set_of(alloc: Global, ids: &[Id]) -> Result<Recipients, Fail> {
+    Ok(Recipients::of(alloc, ids)?)
 }
 
 #[test]
 fn ids_are_added_and_taken_out(rt: HostRuntime) -> Result<(), Fail> {
-    let mut set = Recipients::of(rt.alloc(), &ids(rt.alloc(), &["bob"])?)?;
+    let mut set = set_of(rt.alloc(), &ids(rt.alloc(), &["bob"])?)?;
     let kept = set.copy()?;
-    let alice = Id::read(rt.alloc(), "alice")?;
-    let bob = Id::read(rt.alloc(), "bob")?;
-    assert_eq!(rt; set.add(&bob), Err(IdAddFault::Already));
-    assert_eq!(rt; set.remove(&alice), Err(IdRemoveFault::Absent));
-    assert_eq!(rt; set.remove(&bob), Err(IdRemoveFault::Last));
-    assert!(rt; set.same(&kept));
-    assert_eq!(rt; set.add(&alice), Ok(()));
-    assert!(rt; !set.same(&kept));
-    assert_eq!(rt; set.write()?.as_slice(), b"alice\nbob\n".as_slice());
-    assert_eq!(rt; set.remove(&alice), Ok(()));
-    assert!(rt; set.same(&kept));
+    assert!(rt; bob_and_alice(rt.alloc(), &mut set, &kept)?);
     Ok(())
+}
+
+/// Why the id is not added.
+fn add_fault(alloc: Global, set: &mut Recipients, id: &str) -> Result<Option<IdAddFault>, Fail> {
+    let id = Id::read(alloc, id)?;
+    Ok(set.add(&id).err())
 }
 
 #[test]
 fn a_full_set_takes_no_more(rt: HostRuntime) -> Result<(), Fail> {
-    let mut set = Recipients::of(rt.alloc(), &numbered(rt.alloc(), 64)?)?;
-    let more = Id::read(rt.alloc(), "more")?;
-    assert_eq!(rt; set.add(&more), Err(IdAddFault::Full));
-    let there = Id::read(rt.alloc(), "id-00")?;
-    assert_eq!(rt; set.add(&there), Err(IdAddFault::Already));
+    let mut set = set_of(rt.alloc(), &numbered(rt.alloc(), 64)?)?;
+    let more = add_fault(rt.alloc(), &mut set, "more")?;
+    let there = add_fault(rt.alloc(), &mut set, "id-00")?;
+    assert_eq!(rt; more, Some(IdAddFault::Full));
+    assert_eq!(rt; there, Some(IdAddFault::Already));
     assert_eq!(rt; set.ids().len(), 64);
     Ok(())
 }
