@@ -186,16 +186,29 @@ mod tests {
         Ok(MemTool::new(ids(alloc, &[])?, ids(alloc, &[held])?, failing))
     }
 
+    /// Whether the tool opens the text with this body.
+    fn opens(alloc: Global, tool: &mut MemTool, sealed: &[u8], body: &[u8]) -> Result<bool, Fail> {
+        Ok(tool.open(alloc, sealed)?.as_slice() == body)
+    }
+
+    /// Why the tool does not open the text.
+    fn unseal_fault(alloc: Global, tool: &mut MemTool, sealed: &[u8]) -> Option<UnsealFault> {
+        tool.open(alloc, sealed).err()
+    }
+
+    fn alice_opens(alloc: Global) -> Result<bool, Fail> {
+        let mut tool = holding(alloc, "alice", Vec::new(alloc))?;
+        let is_opened = opens(alloc, &mut tool, SEALED, b"pw\n")?;
+        let fault = unseal_fault(alloc, &mut tool, b"x");
+        Ok(is_opened && fault == Some(UnsealFault::NotSealed))
+    }
+
     #[test]
     fn opens_where_it_holds_a_key(rt: HostRuntime) -> Result<(), Fail> {
-        let mut alice = holding(rt.alloc(), "alice", Vec::new(rt.alloc()))?;
-        assert_eq!(rt;
-            alice.open(rt.alloc(), SEALED)?.as_slice(),
-            b"pw\n".as_slice()
-        );
-        assert_eq!(rt; alice.open(rt.alloc(), b"x"), Err(UnsealFault::NotSealed));
+        assert!(rt; alice_opens(rt.alloc())?);
         let mut carol = holding(rt.alloc(), "carol", Vec::new(rt.alloc()))?;
-        assert_eq!(rt; carol.open(rt.alloc(), SEALED), Err(UnsealFault::NoKey));
+        let fault = unseal_fault(rt.alloc(), &mut carol, SEALED);
+        assert!(rt; fault == Some(UnsealFault::NoKey));
         Ok(())
     }
 
@@ -233,38 +246,62 @@ mod tests {
         Ok(MemTool::new(known, ids(alloc, &["alice"])?, failing))
     }
 
+    /// Whether the tool seals for alice and bob, and tells both again.
+    fn seals_for_two(alloc: Global, tool: &mut MemTool) -> Result<bool, Fail> {
+        let two = set(alloc, &["alice", "bob"])?;
+        let is_sealed = tool.seal(alloc, &two, b"pw\n")?.as_slice() == SEALED;
+        Ok(tool.whom(alloc, SEALED)?.same(&two) && is_sealed)
+    }
+
+    /// Why the tool does not seal for these ids.
+    fn seal_fault(
+        alloc: Global,
+        tool: &mut MemTool,
+        texts: &[&str],
+    ) -> Result<Option<SealFault>, Fail> {
+        let to = set(alloc, texts)?;
+        Ok(tool.seal(alloc, &to, b"pw\n").err())
+    }
+
+    /// Sets with an id that is not known, and the place of the first one.
+    const UNKNOWN: &[(&[&str], usize)] = &[
+        (&["alice", "dave"], 1),
+        (&["dave", "alice", "eve"], 1),
+        (&["Zed", "alice"], 0),
+    ];
+
+    fn refuses_unknown(alloc: Global, tool: &mut MemTool) -> Result<bool, Fail> {
+        for (texts, place) in UNKNOWN {
+            if seal_fault(alloc, tool, texts)? != Some(SealFault::UnknownId(*place)) {
+                return Ok(false);
+            }
+        }
+        Ok(true)
+    }
+
     #[test]
     fn seals_for_known_ids(rt: HostRuntime) -> Result<(), Fail> {
         let mut tool = knowing(rt.alloc(), Vec::new(rt.alloc()))?;
-        let two = set(rt.alloc(), &["alice", "bob"])?;
-        let sealed = tool.seal(rt.alloc(), &two, b"pw\n")?;
-        assert_eq!(rt; sealed.as_slice(), SEALED);
-        assert!(rt; tool.whom(rt.alloc(), SEALED)?.same(&two));
-        for (texts, place) in [
-            (["alice", "dave"].as_slice(), 1),
-            (["dave", "alice", "eve"].as_slice(), 1),
-            (["Zed", "alice"].as_slice(), 0),
-        ] {
-            let to = set(rt.alloc(), texts)?;
-            let sealed = tool.seal(rt.alloc(), &to, b"pw\n");
-            assert_eq!(rt; sealed, Err(SealFault::UnknownId(place)));
-        }
+        assert!(rt; seals_for_two(rt.alloc(), &mut tool)?);
+        assert!(rt; refuses_unknown(rt.alloc(), &mut tool)?);
         assert_eq!(rt; tool.calls(), 5);
         assert_eq!(rt; tool.faults(), 0);
         Ok(())
+    }
+
+    /// Why the tool does not tell for whom this was sealed.
+    fn whom_fault(alloc: Global, tool: &mut MemTool, sealed: &[u8]) -> Option<WhomFault> {
+        tool.whom(alloc, sealed).err()
     }
 
     #[test]
     fn tells_for_whom(rt: HostRuntime) -> Result<(), Fail> {
         let failing = vec![in rt.alloc(); 1u64]?;
         let mut tool = knowing(rt.alloc(), failing)?;
-        for (bytes, want) in [
-            (b"x".as_slice(), WhomFault::NotSealed),
-            (SEALED, WhomFault::Failed),
-        ] {
-            let whom = tool.whom(rt.alloc(), bytes);
-            assert!(rt; matches!(whom, Err(fault) if fault == want));
-        }
+        let first = whom_fault(rt.alloc(), &mut tool, b"x");
+        let second = whom_fault(rt.alloc(), &mut tool, SEALED);
+        assert!(rt; first == Some(WhomFault::NotSealed));
+        assert!(rt; second == Some(WhomFault::Failed));
         assert_eq!(rt; tool.calls(), 2);
         assert_eq!(rt; tool.faults(), 1);
         Ok(())
