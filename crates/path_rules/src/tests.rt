@@ -29,12 +29,23 @@ fn rules_of(alloc: Global, entries: &[(&str, &str)]) -> Result<Rules, Fail> {
     Ok(rules)
 }
 
+fn numbered(alloc: Global, number: usize) -> Result<DirPath, Fail> {
+    let text = format!(in alloc; "d{number}")?;
+    Ok(DirPath::read(alloc, &text)?)
+}
+
+fn add_mount(alloc: Global, mounts: &mut Mounts, number: usize, alias: &str) -> Result<(), Fail> {
+    let dir = numbered(alloc, number)?;
+    let alias = Folder::read(alloc, alias)?;
+    Ok(mounts.add(&alias, &dir)?)
+}
+
 /// The root's mount, and one for each of these aliases in a directory of the same text.
 fn mounts_of(alloc: Global, aliases: &[&str]) -> Result<Mounts, Fail> {
-    let mut mounts = Mounts::only(alloc, &DirPath::read(alloc, "root")?)?;
+    let root = DirPath::read(alloc, "root")?;
+    let mut mounts = Mounts::only(alloc, &root)?;
     for (number, alias) in aliases.iter().enumerate() {
-        let dir = format!(in alloc; "d{number}")?;
-        mounts.add(&Folder::read(alloc, alias)?, &DirPath::read(alloc, &dir)?)?;
+        add_mount(alloc, &mut mounts, number, alias)?;
     }
     Ok(mounts)
 }
@@ -62,49 +73,86 @@ fn governing(alloc: Global, rules: &Rules, mounts: &Mounts, name: &str) -> Resul
     lines(alloc, rules.governing(&name, &place))
 }
 
+/// Whether the set that governs the secret has these lines.
+fn governs(
+    alloc: Global,
+    rules: &Rules,
+    mounts: &Mounts,
+    name: &str,
+    want: &str,
+) -> Result<bool, Fail> {
+    Ok(governing(alloc, rules, mounts, name)?.as_slice() == want.as_bytes())
+}
+
 /// The lines of the folder's own rule.
 fn rule_at(alloc: Global, rules: &Rules, folder: &str) -> Result<Vec<u8>, Fail> {
     lines(alloc, rules.at(&Folder::read(alloc, folder)?))
 }
 
+/// Whether the folder's own rule has these lines.
+fn has_rule(alloc: Global, rules: &Rules, folder: &str, want: &str) -> Result<bool, Fail> {
+    Ok(rule_at(alloc, rules, folder)?.as_slice() == want.as_bytes())
+}
+
+/// Secrets, and the lines of the sets that govern them.
+const GOVERNED: &[(&str, &str)] = &[
+    ("x", "alice\n"),
+    ("a/bc", "alice\n"),
+    ("a/b", "alice\n"),
+    ("a/bc/d", "alice\n"),
+    ("a/b/c", "bob\n"),
+    ("a/b/c/d", "bob\n"),
+    ("b/a/b/c", "alice\n"),
+];
+
 #[test]
 fn longest_folder_governs(rt: HostRuntime) -> Result<(), Fail> {
     let rules = rules_of(rt.alloc(), &[("a/b", "bob"), ("/", "alice")])?;
     let mounts = mounts_of(rt.alloc(), &[])?;
-    for (name, want) in [
-        ("x", "alice\n"),
-        ("a/bc", "alice\n"),
-        ("a/b", "alice\n"),
-        ("a/bc/d", "alice\n"),
-        ("a/b/c", "bob\n"),
-        ("a/b/c/d", "bob\n"),
-        ("b/a/b/c", "alice\n"),
-    ] {
-        let lines = governing(rt.alloc(), &rules, &mounts, name)?;
-        assert_eq!(rt; lines.as_slice(), want.as_bytes(), "at {name}");
+    for (name, want) in GOVERNED {
+        assert!(rt;
+            governs(rt.alloc(), &rules, &mounts, name, want)?,
+            "at {name}"
+        );
     }
     Ok(())
 }
 
+/// Whether the rule of the folder alone governs the secret so.
+fn one_governs(
+    alloc: Global,
+    mounts: &Mounts,
+    folder: &str,
+    name: &str,
+    want: &str,
+) -> Result<bool, Fail> {
+    let rules = rules_of(alloc, &[(folder, "alice")])?;
+    governs(alloc, &rules, mounts, name, want)
+}
+
+/// Folders, secrets, and the lines of the folder's set where it governs the secret.
+const BY_MOUNTS: &[(&str, &str, &str)] = &[
+    ("/", "x", "alice\n"),
+    ("/", "work", "alice\n"),
+    ("/", "work/x", ""),
+    ("/", "work/db/x", ""),
+    ("work", "x", ""),
+    ("work", "work/x", "alice\n"),
+    ("work", "work/dbx/x", "alice\n"),
+    ("work", "work/db", "alice\n"),
+    ("work", "work/db/x", ""),
+    ("work/db", "work/db/x", "alice\n"),
+    ("work/db/x", "work/db/x/y", "alice\n"),
+];
+
 #[test]
 fn no_folder_above_the_mount_governs(rt: HostRuntime) -> Result<(), Fail> {
     let mounts = mounts_of(rt.alloc(), &["work", "work/db"])?;
-    for (folder, name, want) in [
-        ("/", "x", "alice\n"),
-        ("/", "work", "alice\n"),
-        ("/", "work/x", ""),
-        ("/", "work/db/x", ""),
-        ("work", "x", ""),
-        ("work", "work/x", "alice\n"),
-        ("work", "work/dbx/x", "alice\n"),
-        ("work", "work/db", "alice\n"),
-        ("work", "work/db/x", ""),
-        ("work/db", "work/db/x", "alice\n"),
-        ("work/db/x", "work/db/x/y", "alice\n"),
-    ] {
-        let rules = rules_of(rt.alloc(), &[(folder, "alice")])?;
-        let lines = governing(rt.alloc(), &rules, &mounts, name)?;
-        assert_eq!(rt; lines.as_slice(), want.as_bytes(), "at {folder} for {name}");
+    for (folder, name, want) in BY_MOUNTS {
+        assert!(rt;
+            one_governs(rt.alloc(), &mounts, folder, name, want)?,
+            "at {folder} for {name}"
+        );
     }
     Ok(())
 }
@@ -113,30 +161,55 @@ fn no_folder_above_the_mount_governs(rt: HostRuntime) -> Result<(), Fail> {
 fn no_rule_governs_without_rules(rt: HostRuntime) -> Result<(), Fail> {
     let rules = Rules::new(rt.alloc());
     let mounts = mounts_of(rt.alloc(), &["work"])?;
-    for name in ["x", "a/b", "work/x"] {
-        let lines = governing(rt.alloc(), &rules, &mounts, name)?;
-        assert!(rt; lines.is_empty(), "at {name}");
+    for name in &["x", "a/b", "work/x"] {
+        assert!(rt;
+            governs(rt.alloc(), &rules, &mounts, name, "")?,
+            "at {name}"
+        );
     }
     assert!(rt; rules.folders().is_empty());
     Ok(())
 }
 
+/// Whether the rule that is taken from the folder has these lines.
+fn is_unset(rules: &mut Rules, folder: &Folder, want: &[u8]) -> Result<bool, Fail> {
+    let taken = rules.unset(folder)?;
+    Ok(taken.write()?.as_slice() == want)
+}
+
+fn is_absent(rules: &mut Rules, folder: &Folder) -> bool {
+    matches!(rules.unset(folder), Err(Absent)) && rules.at(folder).is_none()
+}
+
+/// Whether the rule of `a` goes, once.
+fn goes(alloc: Global, rules: &mut Rules) -> Result<bool, Fail> {
+    let a = Folder::read(alloc, "a")?;
+    Ok(is_unset(rules, &a, b"bob\n")? && is_absent(rules, &a))
+}
+
+/// Folders, and the lines of their own rules.
+const CAME: &[(&str, &str)] = &[("a", "bob\n"), ("b", "carol\n"), ("/", ""), ("a/b", "")];
+
 #[test]
 fn rules_come_and_go(rt: HostRuntime) -> Result<(), Fail> {
     let mut rules = rules_of(rt.alloc(), &[("a", "alice"), ("b", "carol"), ("a", "bob")])?;
     assert_eq!(rt; rules.folders().len(), 2);
-    for (folder, want) in [("a", "bob\n"), ("b", "carol\n"), ("/", ""), ("a/b", "")] {
-        let lines = rule_at(rt.alloc(), &rules, folder)?;
-        assert_eq!(rt; lines.as_slice(), want.as_bytes(), "at {folder}");
+    for (folder, want) in CAME {
+        assert!(rt; has_rule(rt.alloc(), &rules, folder, want)?, "at {folder}");
     }
-    let a = Folder::read(rt.alloc(), "a")?;
-    let taken = rules.unset(&a)?;
-    assert_eq!(rt; taken.write()?.as_slice(), b"bob\n".as_slice());
-    assert!(rt; matches!(rules.unset(&a), Err(Absent)));
-    assert!(rt; rules.at(&a).is_none());
-    let lines = rule_at(rt.alloc(), &rules, "b")?;
-    assert_eq!(rt; lines.as_slice(), b"carol\n".as_slice());
+    assert!(rt; goes(rt.alloc(), &mut rules)?);
+    assert!(rt; has_rule(rt.alloc(), &rules, "b", "carol\n")?);
     Ok(())
+}
+
+/// The folders that have a rule, with a space behind each.
+fn folders_text(alloc: Global, rules: &Rules) -> Result<String, Fail> {
+    let mut texts = String::new(alloc);
+    for folder in rules.folders() {
+        texts.push_str(folder.text())?;
+        texts.push(' ')?;
+    }
+    Ok(texts)
 }
 
 #[test]
@@ -149,33 +222,44 @@ fn folders_rise_by_their_bytes(rt: HostRuntime) -> Result<(), Fail> {
         ("a-b", "a"),
     ];
     let rules = rules_of(rt.alloc(), &entries)?;
-    let mut texts = String::new(rt.alloc());
-    for folder in rules.folders() {
-        texts.push_str(folder.text())?;
-        texts.push(' ')?;
-    }
-    assert_eq!(rt; texts.as_str(), " a a-b a/b b ");
+    assert!(rt; folders_text(rt.alloc(), &rules)?.as_str() == " a a-b a/b b ");
     Ok(())
+}
+
+fn set_numbered(alloc: Global, rules: &mut Rules, number: u32) -> Result<(), Fail> {
+    let folder = format!(in alloc; "f{number}")?;
+    set(alloc, rules, &folder, "alice")
+}
+
+fn full(alloc: Global) -> Result<Rules, Fail> {
+    let mut rules = Rules::new(alloc);
+    for number in 0..512u32 {
+        set_numbered(alloc, &mut rules, number)?;
+    }
+    Ok(rules)
+}
+
+/// Why the folder is not given the rule of bob.
+fn bob_fault(alloc: Global, rules: &mut Rules, folder: &str) -> Result<Option<RulesFault>, Fail> {
+    let folder = Folder::read(alloc, folder)?;
+    let bob = set_of(alloc, &["bob"])?;
+    Ok(rules.set(&folder, bob).err())
 }
 
 #[test]
 fn at_most_512_folders_have_a_rule(rt: HostRuntime) -> Result<(), Fail> {
-    let mut rules = Rules::new(rt.alloc());
-    for number in 0..512u32 {
-        let folder = format!(in rt.alloc(); "f{number}")?;
-        set(rt.alloc(), &mut rules, &folder, "alice")?;
-    }
+    let mut rules = full(rt.alloc())?;
     for (folder, fault, want) in [
         ("g", Some(RulesFault::Full), ""),
         ("/", Some(RulesFault::Full), ""),
         ("f511", None, "bob\n"),
     ] {
-        let text = folder;
-        let folder = Folder::read(rt.alloc(), text)?;
-        let bob = set_of(rt.alloc(), &["bob"])?;
-        assert_eq!(rt; rules.set(&folder, bob).err(), fault, "at {text}");
-        let lines = rule_at(rt.alloc(), &rules, text)?;
-        assert_eq!(rt; lines.as_slice(), want.as_bytes(), "at {text}");
+        assert_eq!(rt;
+            bob_fault(rt.alloc(), &mut rules, folder)?,
+            fault,
+            "at {folder}"
+        );
+        assert!(rt; has_rule(rt.alloc(), &rules, folder, want)?, "at {folder}");
     }
     assert_eq!(rt; rules.folders().len(), 512);
     Ok(())
@@ -186,13 +270,11 @@ fn copies_are_equal(rt: HostRuntime) -> Result<(), Fail> {
     let rules = rules_of(rt.alloc(), &[("/", "alice"), ("a/b", "bob")])?;
     let mut copy = rules.copy()?;
     for (folder, want) in [("/", "alice\n"), ("a/b", "bob\n"), ("a", "")] {
-        let lines = rule_at(rt.alloc(), &copy, folder)?;
-        assert_eq!(rt; lines.as_slice(), want.as_bytes(), "at {folder}");
+        assert!(rt; has_rule(rt.alloc(), &copy, folder, want)?, "at {folder}");
     }
     assert_eq!(rt; copy.folders().len(), 2);
     set(rt.alloc(), &mut copy, "/", "carol")?;
-    let lines = rule_at(rt.alloc(), &rules, "/")?;
-    assert_eq!(rt; lines.as_slice(), b"alice\n".as_slice());
+    assert!(rt; has_rule(rt.alloc(), &rules, "/", "alice\n")?);
     Ok(())
 }
 
@@ -212,31 +294,68 @@ fn affected_texts(
     Ok(texts)
 }
 
+/// The rules with another one of this id, or with one less.
+fn changed(alloc: Global, before: &Rules, folder: &str, id: &str) -> Result<Rules, Fail> {
+    let mut after = before.copy()?;
+    change(alloc, &mut after, folder, id)?;
+    Ok(after)
+}
+
+fn unset(alloc: Global, rules: &mut Rules, folder: &str) -> Result<(), Fail> {
+    let folder = Folder::read(alloc, folder)?;
+    let _ = rules.unset(&folder)?;
+    Ok(())
+}
+
+fn change(alloc: Global, rules: &mut Rules, folder: &str, id: &str) -> Result<(), Fail> {
+    if id.is_empty() {
+        unset(alloc, rules, folder)
+    } else {
+        set(alloc, rules, folder, id)
+    }
+}
+
+/// A change of a folder's rule, to this id or to none, and the names that it is about.
+type Case = (&'static str, &'static str, &'static str);
+
+const CASES: &[Case] = &[
+    ("a/b", "", "a/b/c "),
+    ("a/b", "bob", ""),
+    ("a/b", "eve", "a/b/c "),
+    ("a/b", "alice", "a/b/c "),
+    ("/", "", "a/bc a/b "),
+    ("/", "carol", "a/bc a/b "),
+    ("a", "alice", ""),
+    ("work", "bob", "work/x "),
+];
+
+/// Whether the change, and the one back, are about these names.
+fn affects(
+    alloc: Global,
+    before: &Rules,
+    mounts: &Mounts,
+    names: &[Name],
+    case: Case,
+) -> Result<bool, Fail> {
+    let (folder, id, want) = case;
+    let after = changed(alloc, before, folder, id)?;
+    Ok(
+        affected_texts(alloc, before, &after, mounts, names)?.as_str() == want
+            && affected_texts(alloc, &after, before, mounts, names)?.as_str() == want,
+    )
+}
+
 #[test]
 fn a_change_affects_the_names_that_it_governs(rt: HostRuntime) -> Result<(), Fail> {
     let mounts = mounts_of(rt.alloc(), &["work"])?;
     let names = names_of(rt.alloc(), &["a/bc", "a/b/c", "a/b", "work/x"])?;
     let before = rules_of(rt.alloc(), &[("/", "alice"), ("a/b", "bob")])?;
-    for (folder, id, want) in [
-        ("a/b", "", "a/b/c "),
-        ("a/b", "bob", ""),
-        ("a/b", "eve", "a/b/c "),
-        ("a/b", "alice", "a/b/c "),
-        ("/", "", "a/bc a/b "),
-        ("/", "carol", "a/bc a/b "),
-        ("a", "alice", ""),
-        ("work", "bob", "work/x "),
-    ] {
-        let mut after = before.copy()?;
-        if id.is_empty() {
-            let _ = after.unset(&Folder::read(rt.alloc(), folder)?)?;
-        } else {
-            set(rt.alloc(), &mut after, folder, id)?;
-        }
-        let there = affected_texts(rt.alloc(), &before, &after, &mounts, &names)?;
-        assert_eq!(rt; there.as_str(), want);
-        let back = affected_texts(rt.alloc(), &after, &before, &mounts, &names)?;
-        assert_eq!(rt; back.as_str(), want);
+    for case in CASES {
+        assert!(rt;
+            affects(rt.alloc(), &before, &mounts, &names, *case)?,
+            "{}",
+            case.0
+        );
     }
     Ok(())
 }
