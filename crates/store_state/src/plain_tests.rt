@@ -1,6 +1,7 @@
 //! What lies below the mounts of a store, found plainly and slowly: each file is looked at below each
 //! mount, by nothing but its text. The opening of a store is compared with it.
 
+use crate::Found;
 use crate::tests::{File, disk, folders, found_on, names, paths};
 use mount_table::{Folder, Name};
 use std::test::*;
@@ -126,11 +127,11 @@ fn look(
 }
 
 /// The items in order, each once and with a space behind it.
-fn in_order(rt: &HostRuntime, mut list: Vec<String>, front: &str) -> Result<String, Fail> {
+fn in_order(rt: &HostRuntime, list: &mut Vec<String>, front: &str) -> Result<String, Fail> {
     list.sort_unstable();
     list.dedup();
     let mut text = String::new(rt.alloc());
-    for item in &list {
+    for item in list.iter() {
         text.push_str(front)?;
         text.push_str(item)?;
         text.push(' ')?;
@@ -160,36 +161,51 @@ fn found_plainly(rt: &HostRuntime, mounts: &[Mount], files: &[File]) -> Result<P
     Ok(plain)
 }
 
-/// What was found plainly, a list on each line, and the same of what an opening finds.
-fn both(rt: &HostRuntime, mounts: &[Mount], files: &[File]) -> Result<(String, String), Fail> {
-    let plain = found_plainly(rt, mounts, files)?;
-    let found = found_on(rt, disk(rt, files)?)?;
-    let (ours, wanted) = (
-        [
-            names(rt, &found.seen.names)?,
-            folders(rt, found.rules.folders())?,
-            folders(rt, &found.seen.templates)?,
-            paths(rt, &found.seen.strange)?,
-            paths(rt, &found.seen.shadowed)?,
-        ],
-        [
-            in_order(rt, plain.names, "")?,
-            in_order(rt, plain.rules, "/")?,
-            in_order(rt, plain.templates, "/")?,
-            in_order(rt, plain.strange, "")?,
-            in_order(rt, plain.shadowed, "")?,
-        ],
-    );
-    Ok((on_lines(rt, &ours)?, on_lines(rt, &wanted)?))
+fn add_line(text: &mut String, line: String) -> Result<(), Fail> {
+    text.push_str(&line)?;
+    Ok(text.push('\n')?)
 }
 
-fn on_lines(rt: &HostRuntime, lists: &[String]) -> Result<String, Fail> {
+fn add_plain(rt: &HostRuntime, text: &mut String, plain: &mut Plain) -> Result<(), Fail> {
+    add_line(text, in_order(rt, &mut plain.names, "")?)?;
+    add_line(text, in_order(rt, &mut plain.rules, "/")?)?;
+    add_line(text, in_order(rt, &mut plain.templates, "/")?)?;
+    add_line(text, in_order(rt, &mut plain.strange, "")?)?;
+    add_line(text, in_order(rt, &mut plain.shadowed, "")?)
+}
+
+fn add_found(rt: &HostRuntime, text: &mut String, found: &Found) -> Result<(), Fail> {
+    add_line(text, names(rt, &found.seen.names)?)?;
+    add_line(text, folders(rt, found.rules.folders())?)?;
+    add_line(text, folders(rt, &found.seen.templates)?)?;
+    add_line(text, paths(rt, &found.seen.strange)?)?;
+    add_line(text, paths(rt, &found.seen.shadowed)?)
+}
+
+fn plain_text(rt: &HostRuntime, plain: &mut Plain) -> Result<String, Fail> {
     let mut text = String::new(rt.alloc());
-    for list in lists {
-        text.push_str(list)?;
-        text.push('\n')?;
-    }
+    add_plain(rt, &mut text, plain)?;
     Ok(text)
+}
+
+fn found_text(rt: &HostRuntime, found: &Found) -> Result<String, Fail> {
+    let mut text = String::new(rt.alloc());
+    add_found(rt, &mut text, found)?;
+    Ok(text)
+}
+
+fn plainly(rt: &HostRuntime, mounts: &[Mount], files: &[File]) -> Result<String, Fail> {
+    plain_text(rt, &mut found_plainly(rt, mounts, files)?)
+}
+
+fn by_opening(rt: &HostRuntime, files: &[File]) -> Result<String, Fail> {
+    found_text(rt, &found_on(rt, disk(rt, files)?)?)
+}
+
+/// What an opening finds, a list on each line, and the same of what was found plainly.
+fn both(rt: &HostRuntime, mounts: &[Mount], files: &[File]) -> Result<(String, String), Fail> {
+    let wanted = plainly(rt, mounts, files)?;
+    Ok((by_opening(rt, files)?, wanted))
 }
 
 const ROOT: &[Mount] = &[("", "root")];
