@@ -5,87 +5,116 @@
 //! directory of each mount, and reads each rule file. `show` reads a file more; the commit of a change
 //! of one put makes nine calls.
 
-use crate::store::{CALM, RULE, SITE, Store, run};
-use std::process::Abort;
 use std::test::Fail;
+use transcript::check;
 
-const STORE: Store = Store {
-    files: &[RULE, SITE],
-    input: b"new\n",
-    ..CALM
-};
+const CALLS: &str = r"
+    files root/.gpg-id = alice\n
+    files root/web/site.gpg = gopass-standin 1\nto alice\nbody 70770a\nend\n
+    $ show web/site
+    > pw\n
+    calls 1
+    disk calls 11
+    $ show web
+    ! gopass: web is a folder\n
+    ? 3
+    calls 0
+    disk calls 10
+    $ show web/
+    ! gopass: bad name at 4: web/\n
+    ? 2
+    calls 0
+    disk calls 10
+    $ ls
+    > web/\n
+    >   site\n
+    calls 0
+    disk calls 10
+    $ ls --flat web
+    > web/site\n
+    calls 0
+    disk calls 10
+    $ find web
+    > web/site\n
+    calls 0
+    disk calls 10
+    $ find zz
+    ? 1
+    calls 0
+    disk calls 10
+    $ mounts
+    > /\troot\tplain\n
+    calls 0
+    disk calls 10
+    $ recipients
+    > /\n
+    >   alice\n
+    calls 0
+    disk calls 10
+    $ insert x
+    < new\n
+    calls 1
+    disk calls 19
+    undo
+    $ insert -f web/site
+    < new\n
+    calls 1
+    disk calls 19
+    undo
+    $ insert web/site
+    < new\n
+    ! gopass: web/site is there already\n
+    ? 4
+    calls 0
+    disk calls 10
 
-/// The words, the status that they leave, and how often the tool and the disk were called.
-type Row<'a> = (&'a [&'a str], u8, u64, u64);
+    # bad words ask nobody
+    $
+    ! gopass: bad words at 0\n
+    ? 2
+    calls 0
+    disk calls 0
+    $ frob web/site
+    ! gopass: bad words at 0\n
+    ? 2
+    calls 0
+    disk calls 0
+    $ show web/site x
+    ! gopass: bad words at 2\n
+    ? 2
+    calls 0
+    disk calls 0
 
-/// The rows leave what they say on the store.
-fn check<R: Abort + AllocGlobal>(rt: &R, store: &Store, rows: &[Row]) -> Result<(), Fail> {
-    for (words, status, tool, disk) in rows {
-        let left = run(rt.alloc(), store, words)?;
-        let calls = (left.status, left.tool_calls(), left.disk.steps());
-        assert_eq!(rt; calls, (*status, *tool, *disk), "{words:?}");
-    }
-    Ok(())
-}
+    # each mount is listed once, and each rule file read once
+    new store
+    files root/.gopass-mounts = \troot\tplain\nwork\tw\tplain\nwork/db\td\tplain\n
+    files root/.gpg-id = alice\n
+    files w/.gpg-id = bob\n
+    files w/z/.gpg-id = bob\n
+    $ ls
+    calls 0
+    disk calls 14
+    $ recipients
+    > /\n
+    >   alice\n
+    > work\n
+    >   bob\n
+    > work/z\n
+    >   bob\n
+    calls 0
+    disk calls 14
+    $ show work/x
+    ! gopass: work/x is not in the store\n
+    ? 3
+    calls 0
+    disk calls 14
+    $ insert work/x
+    < new\n
+    calls 1
+    disk calls 23
+";
 
 #[test]
 fn each_command_opens_the_store_once(rt: HostRuntime) -> Result<(), Fail> {
-    check(
-        &rt,
-        &STORE,
-        &[
-            (&["show", "web/site"], 0, 1, 11),
-            (&["show", "web"], 3, 0, 10),
-            (&["show", "web/"], 2, 0, 10),
-            (&["ls"], 0, 0, 10),
-            (&["ls", "--flat", "web"], 0, 0, 10),
-            (&["find", "web"], 0, 0, 10),
-            (&["find", "zz"], 1, 0, 10),
-            (&["mounts"], 0, 0, 10),
-            (&["recipients"], 0, 0, 10),
-            (&["insert", "x"], 0, 1, 19),
-            (&["insert", "-f", "web/site"], 0, 1, 19),
-            (&["insert", "web/site"], 4, 0, 10),
-        ],
-    )
-}
-
-#[test]
-fn bad_words_ask_nobody(rt: HostRuntime) -> Result<(), Fail> {
-    check(
-        &rt,
-        &STORE,
-        &[
-            (&[], 2, 0, 0),
-            (&["frob", "web/site"], 2, 0, 0),
-            (&["show", "web/site", "x"], 2, 0, 0),
-        ],
-    )
-}
-
-#[test]
-fn each_mount_is_listed_once_and_each_rule_read_once(rt: HostRuntime) -> Result<(), Fail> {
-    const MOUNTS: (&str, &[u8]) = (
-        "root/.gopass-mounts",
-        b"\troot\tplain\nwork\tw\tplain\nwork/db\td\tplain\n",
-    );
-    let store = Store {
-        files: &[
-            MOUNTS,
-            RULE,
-            ("w/.gpg-id", b"bob\n"),
-            ("w/z/.gpg-id", b"bob\n"),
-        ],
-        ..STORE
-    };
-    check(
-        &rt,
-        &store,
-        &[
-            (&["ls"], 0, 0, 14),
-            (&["recipients"], 0, 0, 14),
-            (&["show", "work/x"], 3, 0, 14),
-            (&["insert", "work/x"], 0, 1, 23),
-        ],
-    )
+    check(rt.alloc(), CALLS)
 }

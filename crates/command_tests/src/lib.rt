@@ -1,10 +1,10 @@
-//! Tests of commands over stores in memory.
+//! Tests of commands, as transcripts (docs/TRANSCRIPTS.md).
 #![tactic(auto)]
 
 #[cfg(test)]
 mod calls_tests;
 #[cfg(test)]
-mod crowd;
+mod crash_tests;
 #[cfg(test)]
 mod files_tests;
 #[cfg(test)]
@@ -16,14 +16,12 @@ mod limit_tests;
 #[cfg(test)]
 mod listing_tests;
 #[cfg(test)]
-mod opening_tests;
+mod mounts_tests;
 #[cfg(test)]
 mod recipients_tests;
 #[cfg(test)]
 mod show_tests;
 #[cfg(test)]
 mod status_tests;
-#[cfg(test)]
-mod store;
 #[cfg(test)]
 mod stream_tests;

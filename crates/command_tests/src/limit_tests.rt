@@ -1,145 +1,92 @@
 //! Stores at their limits, and stores that pass one.
 
-use crate::crowd::Crowd;
-use crate::store::{CALM, Left, RULE, SITE, Store, disk, run, run_on};
-use disk_model::MemDisk;
-use mount_table::FilePath;
-use std::alloc::Global;
 use std::test::Fail;
+use transcript::check;
 
-const STORE: Store = Store {
-    files: &[RULE, SITE],
-    input: b"new\n",
-    ..CALM
-};
+const PLACES: &str = r"
+    # 64 mounts, one of them that of the root directory
+    files root/.gopass-mounts = \troot\tplain\n
+    each 11..74 adds root/.gopass-mounts = m#\tm#\tplain\n
+    $ mounts
+    > /\troot\tplain\n
+    each 11..74 > m#\tm#\tplain\n
+    adds root/.gopass-mounts = m74\tm74\tplain\n
+    $ mounts
+    ! gopass: root/.gopass-mounts: line 65 is bad\n
+    ? 6
 
-/// Whether a run left this status, nothing on standard output, and this text on standard error.
-fn is_told<D>(left: &Left<D>, status: u8, err: &str) -> bool {
-    left.told() == (status, b"".as_slice(), err.as_bytes())
-}
+    # 512 rules, one of them at the root
+    new store
+    files root/.gpg-id = alice\n
+    each 10000..10511 files root/#/.gpg-id = bob\n
+    $ recipients
+    > /\n
+    >   alice\n
+    each 10000..10511 > #\n  bob\n
+    files root/10511/.gpg-id = bob\n
+    $ recipients
+    ! gopass: limit 512 rules\n
+    ? 10
+";
 
-/// The mounts file of so many mounts.
-fn mounts_of(alloc: Global, count: usize) -> Result<String, Fail> {
-    let mut text = String::from_str(alloc, "\troot\tplain\n")?;
-    for number in 11..count.saturating_add(10) {
-        let line = format!(in alloc; "m{number}\tm{number}\tplain\n")?;
-        text.push_str(&line)?;
-    }
-    Ok(text)
-}
+const SECRETS: &str = r"
+    files root/.gpg-id = alice\n
+    each 10000..18191 files root/#.gpg =
+    $ insert x
+    < new\n
+    $ insert y
+    < new\n
+    ! gopass: limit 8192 secrets\n
+    ? 10
+    $ insert -f x
+    < new\n
 
-/// What `mounts` leaves of a store with this mounts file.
-fn mounts(alloc: Global, text: &str) -> Result<Left<MemDisk>, Fail> {
-    let store = Store {
-        files: &[("root/.gopass-mounts", text.as_bytes())],
-        ..STORE
-    };
-    run(alloc, &store, &["mounts"])
+    # one with more is not opened
+    new store
+    files root/.gpg-id = alice\n
+    each 10000..18193 files root/#.gpg =
+    $ find zz
+    ! gopass: limit 8192 secrets\n
+    ? 10
+";
+
+const FILES: &str = r"
+    files root/.gpg-id = alice\n
+    files root/web/site.gpg = gopass-standin 1\nto alice\nbody 70770a\nend\n
+
+    # 39,999 files, of which two stand
+    crowd 39997
+    $ insert x
+    < new\n
+    undo
+
+    # 40,000 files
+    crowd 39998
+    $ insert x
+    < new\n
+    ! gopass: limit 40000 files\n
+    ? 10
+    $ insert -f web/site
+    < new\n
+
+    # 40,001 files
+    crowd 39999
+    $ find zz
+    ! gopass: limit 40000 files\n
+    ? 10
+";
+
+#[test]
+fn a_store_has_at_most_64_mounts_and_512_rules(rt: HostRuntime) -> Result<(), Fail> {
+    check(rt.alloc(), PLACES)
 }
 
 #[test]
-fn a_store_has_at_most_64_mounts(rt: HostRuntime) -> Result<(), Fail> {
-    let text = mounts_of(rt.alloc(), 64)?;
-    let left = mounts(rt.alloc(), &text)?;
-    let listed = format!(in rt.alloc(); "/{text}")?;
-    let want = (0, listed.as_bytes(), b"".as_slice());
-    assert_eq!(rt; left.told(), want);
-    let left = mounts(rt.alloc(), &mounts_of(rt.alloc(), 65)?)?;
-    let err = "gopass: root/.gopass-mounts: line 65 is bad\n";
-    assert!(rt; is_told(&left, 6, err));
-    Ok(())
-}
-
-/// A disk with a rule at the root, and so many files that are named by a number, with this text
-/// behind it, and hold these bytes.
-fn many(alloc: Global, count: usize, ending: &str, bytes: &[u8]) -> Result<MemDisk, Fail> {
-    let mut files = Vec::new(alloc);
-    files.push((FilePath::read(alloc, RULE.0)?, RULE.1.to_vec(alloc)?))?;
-    for number in 10_000..count.saturating_add(10_000) {
-        let path = format!(in alloc; "root/{number}{ending}")?;
-        files.push((FilePath::read(alloc, &path)?, bytes.to_vec(alloc)?))?;
-    }
-    Ok(MemDisk::new(alloc, files)?)
+fn a_store_has_at_most_8192_secrets(rt: HostRuntime) -> Result<(), Fail> {
+    check(rt.alloc(), SECRETS)
 }
 
 #[test]
-fn a_store_has_at_most_512_rules(rt: HostRuntime) -> Result<(), Fail> {
-    let alloc = rt.alloc();
-    // One more is at the root.
-    let disk = many(alloc, 511, "/.gpg-id", b"bob\n")?;
-    let left = run_on(alloc, &STORE, disk, &["recipients"])?;
-    // A folder of five bytes and an id of five, each with its line feed, and so for alice at `/`.
-    let count = (left.status, left.out().len(), left.err().len());
-    assert_eq!(rt; count, (0, 511 * 12 + 10, 0));
-    let disk = many(alloc, 512, "/.gpg-id", b"bob\n")?;
-    let left = run_on(alloc, &STORE, disk, &["recipients"])?;
-    assert!(rt; is_told(&left, 10, "gopass: limit 512 rules\n"));
-    Ok(())
-}
-
-/// Whether the last secret for which there is room is taken and none after it, and whether the last
-/// is written over then.
-fn fills(alloc: Global, disk: MemDisk) -> Result<bool, Fail> {
-    let last = run_on(alloc, &STORE, disk, &["insert", "x"])?;
-    let is_taken = is_told(&last, 0, "");
-    let next = run_on(alloc, &STORE, last.disk, &["insert", "y"])?;
-    let is_full = is_told(&next, 10, "gopass: limit 8192 secrets\n");
-    let over = run_on(alloc, &STORE, next.disk, &["insert", "-f", "x"])?;
-    Ok(is_taken && is_full && is_told(&over, 0, ""))
-}
-
-#[test]
-fn insert_fills_a_store_up_to_8192_secrets(rt: HostRuntime) -> Result<(), Fail> {
-    let disk = many(rt.alloc(), 8_191, ".gpg", b"")?;
-    assert!(rt; fills(rt.alloc(), disk)?);
-    Ok(())
-}
-
-#[test]
-fn a_store_with_8193_secrets_is_not_opened(rt: HostRuntime) -> Result<(), Fail> {
-    let disk = many(rt.alloc(), 8_193, ".gpg", b"")?;
-    let left = run_on(rt.alloc(), &STORE, disk, &["find", "zz"])?;
-    assert!(rt; is_told(&left, 10, "gopass: limit 8192 secrets\n"));
-    Ok(())
-}
-
-/// Whether the words leave this status and this text on standard error of a store with so many files
-/// at the root.
-fn leaves(
-    alloc: Global,
-    files: usize,
-    words: &[&str],
-    status: u8,
-    err: &str,
-) -> Result<bool, Fail> {
-    let disk = disk(alloc, &STORE)?;
-    let more = files.saturating_sub(disk.files().len());
-    let left = run_on(alloc, &STORE, Crowd { disk, more }, words)?;
-    Ok(is_told(&left, status, err))
-}
-
-const FULL: &str = "gopass: limit 40000 files\n";
-
-#[test]
-fn a_mount_with_39999_files_takes_one_more(rt: HostRuntime) -> Result<(), Fail> {
-    assert!(rt; leaves(rt.alloc(), 39_999, &["insert", "x"], 0, "")?);
-    Ok(())
-}
-
-#[test]
-fn a_mount_with_40000_files_takes_none(rt: HostRuntime) -> Result<(), Fail> {
-    assert!(rt; leaves(rt.alloc(), 40_000, &["insert", "x"], 10, FULL)?);
-    Ok(())
-}
-
-#[test]
-fn a_mount_with_40000_files_is_written_over(rt: HostRuntime) -> Result<(), Fail> {
-    assert!(rt; leaves(rt.alloc(), 40_000, &["insert", "-f", "web/site"], 0, "")?);
-    Ok(())
-}
-
-#[test]
-fn a_mount_with_40001_files_is_not_opened(rt: HostRuntime) -> Result<(), Fail> {
-    assert!(rt; leaves(rt.alloc(), 40_001, &["find", "zz"], 10, FULL)?);
-    Ok(())
+fn a_mount_has_at_most_40000_files(rt: HostRuntime) -> Result<(), Fail> {
+    check(rt.alloc(), FILES)
 }

@@ -1,30 +1,25 @@
-//! A disk with a crowd of files.
+//! The disk of a run.
 
 ghost use Rattle.std.specs.Prelude.{IfOk};
 ghost use Rattle.disk_model.specs.Listing.{IsShort};
 ghost use Rattle.disk_model.specs.Memory.{view_of};
 
 use disk_model::{Disk, DiskFault, Got, Listed, MemDisk};
-use io_ports::NoMemory;
-use mount_table::FilePath;
+use gopass_base::{FilePath, NoMemory};
 use std::alloc::Global;
 
-/// A disk in memory, and so many files more in the directory `root` that are passed over. They are
-/// listed and stand nowhere, since a disk in memory takes minutes for 40,000 files.
+/// A disk in memory that counts how often a journal was put in its place, and lists a crowd of files
+/// more in the directory `root`. These stand nowhere, since a disk in memory takes minutes for 40,000
+/// files.
 #[derive(Drop)]
-pub(crate) struct Crowd {
+pub(crate) struct Watched {
     pub disk: MemDisk,
-    pub more: usize,
-}
-
-/// The path of one file more.
-fn path_of(alloc: Global, number: usize) -> Result<FilePath, NoMemory> {
-    let text = format!(in alloc; "root/.{number}")?;
-    FilePath::read(alloc, &text).map_err(|_| NoMemory)
+    pub crowd: u64,
+    pub commits: u64,
 }
 
 /// The paths with so many more, where they are at most `max` then.
-fn with_more(paths: Vec<FilePath>, more: usize, max: usize) -> Result<Listed, NoMemory>
+fn with_more(paths: Vec<FilePath>, more: u64, max: usize) -> Result<Listed, NoMemory>
     ensures { IfOk result (IsShort max) }
 {
     let alloc = *paths.allocator();
@@ -38,10 +33,16 @@ fn with_more(paths: Vec<FilePath>, more: usize, max: usize) -> Result<Listed, No
     Ok(Listed::All(paths))
 }
 
-impl Disk for Crowd {
-    ghost meaning = { record { tells = ⊥; view = λ crowd. view_of crowd.disk; faults = λ crowd. crowd.disk.calls.faults; calls = λ crowd. crowd.disk.calls.made; asked = λ crowd. crowd.disk.asked; held = λ crowd. crowd.disk.held } };
+/// The path of one file more.
+fn path_of(alloc: Global, number: u64) -> Result<FilePath, NoMemory> {
+    let text = format!(in alloc; "root/.{number}")?;
+    FilePath::read(alloc, &text).map_err(|_| NoMemory)
+}
 
-    ghost sound = { λ crowd told. absurd told };
+impl Disk for Watched {
+    ghost meaning = { record { tells = ⊥; view = λ watched. view_of watched.disk; faults = λ watched. watched.disk.calls.faults; calls = λ watched. watched.disk.calls.made; asked = λ watched. watched.disk.asked; held = λ watched. watched.disk.held } };
+
+    ghost sound = { λ watched told. absurd told };
 
     fn hold(&mut self) -> Result<(), DiskFault> {
         self.disk.hold()
@@ -49,7 +50,7 @@ impl Disk for Crowd {
 
     fn list(&mut self, dir: &FilePath, max: usize) -> Result<Listed, DiskFault> {
         match self.disk.list(dir, max)? {
-            Listed::All(paths) if dir.text() == "root" => Ok(with_more(paths, self.more, max)?),
+            Listed::All(paths) if dir.text() == "root" => Ok(with_more(paths, self.crowd, max)?),
             listed => Ok(listed),
         }
     }
@@ -63,7 +64,11 @@ impl Disk for Crowd {
     }
 
     fn rename(&mut self, from: &FilePath, to: &FilePath) -> Result<(), DiskFault> {
-        self.disk.rename(from, to)
+        self.disk.rename(from, to)?;
+        if to.text().ends_with("/.gopass-journal") {
+            self.commits = self.commits.saturating_add(1);
+        }
+        Ok(())
     }
 
     fn remove(&mut self, path: &FilePath) -> Result<(), DiskFault> {
