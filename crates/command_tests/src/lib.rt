@@ -20,6 +20,8 @@ mod mounts_tests;
 #[cfg(test)]
 mod recipients_tests;
 #[cfg(test)]
+mod refused_tests;
+#[cfg(test)]
 mod show_tests;
 #[cfg(test)]
 mod status_tests;

@@ -40,9 +40,9 @@ const SECRETS: &str = r"
     ? 10
     $ insert -f x
     < new\n
+";
 
-    # one with more is not opened
-    new store
+const MORE: &str = r"
     files root/.gpg-id = alice\n
     each 10000..18193 files root/#.gpg =
     $ find zz
@@ -82,8 +82,13 @@ fn a_store_has_at_most_64_mounts_and_512_rules(rt: HostRuntime) -> Result<(), Fa
 }
 
 #[test]
-fn a_store_has_at_most_8192_secrets(rt: HostRuntime) -> Result<(), Fail> {
+fn insert_fills_a_store_up_to_8192_secrets(rt: HostRuntime) -> Result<(), Fail> {
     check(rt.alloc(), SECRETS)
+}
+
+#[test]
+fn a_store_with_8193_secrets_is_not_opened(rt: HostRuntime) -> Result<(), Fail> {
+    check(rt.alloc(), MORE)
 }
 
 #[test]

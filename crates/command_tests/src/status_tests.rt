@@ -1,4 +1,4 @@
-//! The numbers of statuses.
+//! The numbers of statuses: no transcript, since no run gives some of them.
 
 use gopass_cli::Status;
 use std::test::*;

@@ -12,4 +12,4 @@ mod transcript;
 mod trial;
 mod watched;
 
-pub use transcript::check;
+pub use transcript::{check, refusal};

@@ -38,11 +38,26 @@ fn add_copies(files: &mut Vec<File>, alloc: Global, more: &[File]) -> Result<(),
     Ok(())
 }
 
+/// Whether each path lies after the one before it.
+fn is_rising(files: &[File]) -> bool {
+    let mut last: Option<&FilePath> = None;
+    for (path, _) in files {
+        if last.is_some_and(|last| path <= last) {
+            return false;
+        }
+        last = Some(path);
+    }
+    true
+}
+
 /// A disk with the files of this one and with these. Of files with one path the last of these counts.
+/// Thousands of files are put in rising order, since in any other it takes long.
 pub(crate) fn with_files(disk: &MemDisk, alloc: Global, files: &[File]) -> Result<MemDisk, Fault> {
     let mut all = Vec::new(alloc);
     add_copies(&mut all, alloc, files)?;
-    all.reverse();
+    if !is_rising(files) {
+        all.reverse();
+    }
     add_copies(&mut all, alloc, disk.files())?;
     Ok(MemDisk::new(alloc, all)?)
 }

@@ -5,6 +5,7 @@ use crate::numbers::range;
 use crate::run::is_of_run;
 use crate::session::Session;
 use crate::texts::{first_word, numbered};
+use gopass_base::NoMemory;
 use std::alloc::Global;
 use std::mem;
 use std::test::Fail;
@@ -16,12 +17,13 @@ struct Place<'a> {
     line: &'a str,
 }
 
-fn told(place: &Place, fault: Fault) -> Fail {
+/// Says the fault of the line.
+fn told(alloc: Global, place: &Place, fault: Fault) -> Result<String, NoMemory> {
     let Place { number, line } = *place;
     match fault {
-        Fault::NoMemory => Fail::new("out of memory"),
-        Fault::BadLine => Fail::new(format_args!("line {number}: {line}: a bad line")),
-        Fault::Wrong(is) => Fail::new(format_args!("line {number}: {line}: {is}")),
+        Fault::NoMemory => Err(NoMemory),
+        Fault::BadLine => Ok(format!(in alloc; "line {number}: {line}: a bad line")?),
+        Fault::Wrong(is) => Ok(format!(in alloc; "line {number}: {line}: {is}")?),
     }
 }
 
@@ -92,18 +94,15 @@ impl<'a> Reading<'a> {
     }
 }
 
-/// Makes the runs of a transcript, and answers why it does not hold, with the number and the text of the
-/// line.
-///
-/// TODO
-pub fn check(alloc: Global, transcript: &str) -> Result<(), Fail> {
+/// Why the transcript does not hold, where it does not, with the number and the text of the line.
+pub fn refusal(alloc: Global, transcript: &str) -> Result<Option<String>, NoMemory> {
     let nowhere = Place {
         number: 0,
         line: "",
     };
     let session = match Session::new(alloc) {
         Ok(session) => session,
-        Err(fault) => return Err(told(&nowhere, fault)),
+        Err(_) => return Err(NoMemory),
     };
     let mut reading = Reading {
         session,
@@ -111,7 +110,26 @@ pub fn check(alloc: Global, transcript: &str) -> Result<(), Fail> {
         begun: nowhere,
     };
     match reading.read(alloc, transcript) {
-        Ok(()) => Ok(()),
-        Err(fault) => Err(told(&reading.here, fault)),
+        Ok(()) => Ok(None),
+        Err(fault) => Ok(Some(told(alloc, &reading.here, fault)?)),
+    }
+}
+
+/// Makes the runs of a transcript, over stores in memory whose root directory is `root`, and compares what
+/// they leave with what its lines say. Where it does not hold, the answer says why, with the number from 1
+/// and the text of the line. Lines that are none are refused, and so is a transcript that makes no run.
+///
+/// The lines that put what a run finds are `new store`, `files PATH = TEXT`, `sealed PATH = IDS : TEXT`,
+/// `adds PATH = TEXT`, `crowd N`, `knows IDS`, `holds IDS`, `WHAT fails at NUMBERS`,
+/// `WHAT fails at each of NUMBERS`, `sure streams`, `crash after N PICK`, `crash at the end`,
+/// `crash everywhere` and `undo`; `stands PATH = TEXT` and `none PATH` say what it left. A run is `$ WORDS`,
+/// with the lines `< TEXT`, `> TEXT`, `! TEXT`, `? STATUS`, `or`, `left TEXT`, `calls N`, `disk calls N`,
+/// `commits N` and `changes PATHS` right below it. `each N..M LINE` is the line once for each number.
+/// `docs/TRANSCRIPTS.md` says what each of them is.
+pub fn check(alloc: Global, transcript: &str) -> Result<(), Fail> {
+    match refusal(alloc, transcript) {
+        Ok(None) => Ok(()),
+        Ok(Some(why)) => Err(Fail::new(why)),
+        Err(NoMemory) => Err(Fail::new("out of memory")),
     }
 }
