@@ -98,12 +98,21 @@ const HOLDS: &str = r"
 
 /// What is told of a transcript.
 const WHY: &[(&str, &str)] = &[
-    ("$ mounts\nfrob x", "line 1: $ mounts: printed \"/\\troot\\tplain\\n\""),
-    ("\n\n  $ frob\n  ? 2", "line 3: $ frob: told \"gopass: bad words at 0\\n\""),
+    (
+        "$ mounts\nfrob x",
+        "line 1: $ mounts: printed \"/\\troot\\tplain\\n\"",
+    ),
+    (
+        "\n\n  $ frob\n  ? 2",
+        "line 3: $ frob: told \"gopass: bad words at 0\\n\"",
+    ),
     ("$ ls\n? 1", "line 1: $ ls: status 0"),
     ("$ ls\n\nfrob x y", "line 3: frob x y: a bad line"),
     ("$ ls\n> \\q", "line 2: > \\q: a bad line"),
-    ("$ ls\nnone x\n# no more\nstands root/x = x", "line 4: stands root/x = x: no file"),
+    (
+        "$ ls\nnone x\n# no more\nstands root/x = x",
+        "line 4: stands root/x = x: no file",
+    ),
 ];
 
 /// Each has a line that is none, or one where it may not stand, or runs nothing.

@@ -32,12 +32,7 @@ impl<T: Drop> From<AllocFailed<T>> for Fault {
 }
 
 /// The bytes are those that are wanted.
-pub(crate) fn same_bytes(
-    alloc: Global,
-    what: &str,
-    is: &[u8],
-    wanted: &[u8],
-) -> Result<(), Fault> {
+pub(crate) fn same_bytes(alloc: Global, what: &str, is: &[u8], wanted: &[u8]) -> Result<(), Fault> {
     if is == wanted {
         return Ok(());
     }

@@ -9,9 +9,9 @@ use crate::trial::Trial;
 use crate::watched::Watched;
 use cipher_port::{Id, MemTool};
 use disk_model::MemDisk;
+use gopass_base::{DirPath, copies};
 use gopass_cli::{Ended, gopass};
 use io_ports::{MemSink, MemSource, Sink, Source, SureSink, SureSource};
-use gopass_base::{DirPath, copies};
 use std::alloc::Global;
 
 /// What a run left.

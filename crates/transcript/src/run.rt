@@ -197,9 +197,6 @@ impl Run {
         if self.answers.iter().all(|answer| answer.is_given) {
             return Ok(());
         }
-        Err(Fault::Wrong(String::from_str(
-            alloc,
-            "no run gives one of the answers",
-        )?))
+        Err(Fault::Wrong(String::from_str(alloc, "no run gives one of the answers")?))
     }
 }

@@ -33,12 +33,7 @@ pub(crate) struct Session {
 const PICKS: [Pick; 4] = [Pick::None, Pick::All, Pick::Even, Pick::Torn];
 
 /// Adds what crashes after the calls with these numbers leave, by each pick.
-fn add_crashes(
-    disks: &mut Vec<MemDisk>,
-    disk: &MemDisk,
-    from: u64,
-    to: u64,
-) -> Result<(), Fault> {
+fn add_crashes(disks: &mut Vec<MemDisk>, disk: &MemDisk, from: u64, to: u64) -> Result<(), Fault> {
     for moment in from..=to {
         for pick in PICKS {
             add_new(disks, crashed(disk, moment, pick)?)?;
